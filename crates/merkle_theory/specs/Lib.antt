@@ -1,3 +1,11 @@
 pub mod Tree
+pub mod Laws
+pub mod Follow
+pub mod Carried
+pub mod Claims
 pub mod Texts
+pub mod Tells
 pub mod Bytes
+pub mod Terms
+pub mod Digests
+pub mod Cases

@@ -1,0 +1,12 @@
+pub mod Laws
+pub mod Follow
+pub mod Carried
+pub mod Sides
+pub mod There
+pub mod Short
+pub mod Traced
+pub mod RootTells
+pub mod ProofsTell
+pub mod Told
+pub mod Terms
+pub mod Digests
