@@ -1,0 +1,5 @@
+pub mod Lanes
+pub mod Standard
+pub mod Steps
+pub mod Streaming
+pub mod Theorems

@@ -1,0 +1,14 @@
+-- Theorems about the standard's digests.
+use mathlib.Core.Path.{_≡_}
+use mathlib.Core.List.{List}
+use Prim.Native.Nat.{ℕ, _<_}
+use lib.ListN.{length, getD}
+use Rattle.sha256.specs.Standard.{digest}
+
+-- every digest, of whatever message, has as many bytes
+abbrev pub DigestLong : ℕ → Type 0
+DigestLong n = (m : List ℕ) → length (digest m) ≡ n
+
+-- and they are bytes
+abbrev pub DigestBytes : Type 0
+DigestBytes = (m : List ℕ) (i : ℕ) → getD (digest m) i 0 < 256
