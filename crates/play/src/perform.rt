@@ -10,6 +10,7 @@ ghost use Rattle.merkle_tree.specs.Answer.{GrowthAmong, LeafAmong, consistencyO
 ghost use Rattle.merkle_tree.specs.Layout.{rootOf};
 ghost use Rattle.play.specs.declared.answer.Answer.the-variants.{Entered, GoesOn, Leads, Proof, Top, Way};
 ghost use Rattle.play.specs.declared.answer.Refusal.the-variants.{NoMemory, NotThere};
+ghost use Rattle.play.specs.Told.{KeepsTexts};
 ghost use Rattle.play.specs.Played.{Checks, Done, Finds, Holds, Refuses, rowOf};
 use crate::answer::Answer;
 use crate::answer::Refusal;
@@ -98,8 +99,7 @@ impl Harbour {
         Ok(Answer::GoesOn { from, to })
     }
 
-    // Does what the command says; a refusal changes nothing.
-    pub fn perform(&mut self, command: &Command) -> Result<Answer, Refusal>
+    fn carry_out(&mut self, command: &Command) -> Result<Answer, Refusal>
         ensures { λ r. ⌜ Cases r (λ a. Done (now (command .entry)) (rowOf (now (self .entry))) a (rowOf (now (self .exit)))) (λ e. Refuses (now (command .entry)) (rowOf (now (self .entry))) e × (rowOf (now (self .exit)) ≡ rowOf (now (self .entry)))) ⌝ }
     {
         match command {
@@ -119,5 +119,13 @@ impl Harbour {
             } => self.leads(*place, *count, &leaf_digest(text), path),
             Command::GoesOn { from, to, proof } => self.goes_on(*from, *to, proof),
         }
+    }
+
+    // Does what the command says; a refusal changes nothing.
+    pub fn perform(&mut self, command: &Command) -> Result<Answer, Refusal>
+        ensures does { λ r. ⌜ Cases r (λ a. Done (now (command .entry)) (rowOf (now (self .entry))) a (rowOf (now (self .exit)))) (λ e. Refuses (now (command .entry)) (rowOf (now (self .entry))) e × (rowOf (now (self .exit)) ≡ rowOf (now (self .entry)))) ⌝ }
+        ensures tells { λ r. ⌜ KeepsTexts (now (command .entry)) (rowOf (now (self .entry))) r (rowOf (now (self .exit))) ⌝ }
+    {
+        self.carry_out(command)
     }
 }

@@ -1,9 +1,5 @@
-use mathlib.Core.Path.{refl}
-use Rattle.play.proofs.Found.{found-performs}
+use Rattle.play.proofs.Tellings.{keeps-texts}
 use Rattle.play.proofs.harbour.Harbour.perform.Needs as need
 
-pub returns-in-Way : need.returns-in-Way
-returns-in-Way c = found-performs _ _ _ _ (c .in-Way .is) tt tt refl (c .way .ensures)
-
-pub returns-in-Proof : need.returns-in-Proof
-returns-in-Proof c = found-performs _ _ _ _ (c .in-Proof .is) tt tt refl (c .proof .ensures)
+pub returns : need.returns
+returns c = record { does = c .carry-out .ensures; tells = keeps-texts _ _ _ _ (c .carry-out .ensures) }
