@@ -21,7 +21,7 @@ pub(crate) struct Way {
 }
 
 impl Way {
-    pub fn from_root(count: u64, place: u64) -> Way
+    pub(crate) fn from_root(count: u64, place: u64) -> Way
         requires { ⌜ place < count ⌝ }
         ensures { λ r. ⌜ r .count ≡ count ⌝ ∗ ⌜ r .place ≡ place ⌝ ∗ ⌜ r .levels ≡ 0 ⌝ ∗ ⌜ r .turns ≡ 0 ⌝ }
     {
@@ -34,7 +34,7 @@ impl Way {
     }
 
     // One level down, into the side that has the place.
-    pub fn down(self) -> Way
+    pub(crate) fn down(self) -> Way
         requires { ⌜ 2 ≤ self .count ⌝ }
         ensures side { λ r. ⌜ Below (self .count) (self .place) (self .turns) (r .count) (r .place) (r .turns) ⌝ }
         ensures level { λ r. ⌜ r .levels ≡ self .levels + 1 ⌝ }

@@ -51,7 +51,7 @@ fn skip_blanks(line: &[u8]) -> &[u8]
 }
 
 // The words of the line, in their order.
-pub fn split_words<'a>(heap: Global, line: &'a [u8]) -> Result<Vec<&'a [u8]>, AllocError>
+pub(crate) fn split_words<'a>(heap: Global, line: &'a [u8]) -> Result<Vec<&'a [u8]>, AllocError>
     ensures { λ r. ⌜ made r (λ v. map (λ w. w .now) (vec-items v) ≡ words (spoken (now (line .entry)))) ⌝ }
 {
     let mut found = Vec::new(heap);

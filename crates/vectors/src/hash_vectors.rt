@@ -101,7 +101,7 @@ fn agrees(heap: Global, vector: &Vector) -> Result<bool, AllocError> {
     }
 }
 
-pub fn run_hash_vectors(rt: &LibcRuntime, tally: &mut Tally) -> Result<(), AnyError> {
+pub(crate) fn run_hash_vectors(rt: &LibcRuntime, tally: &mut Tally) -> Result<(), AnyError> {
     for vector in VECTORS.iter() {
         let good = agrees(rt.alloc(), vector)?;
         tally.note(rt, vector.name, good)?;

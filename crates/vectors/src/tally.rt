@@ -9,14 +9,19 @@ pub struct Tally {
 }
 
 impl Tally {
-    pub fn new() -> Self
+    pub(crate) fn new() -> Self
         ensures { λ r. ⌜ r .all ≡ 0 ⌝ ∗ ⌜ r .agree ≡ 0 ⌝ }
     {
         Tally { all: 0, agree: 0 }
     }
 
     // Counts a vector and says how it came out.
-    pub fn note(&mut self, rt: &LibcRuntime, name: &str, agrees: bool) -> Result<(), AnyError> {
+    pub(crate) fn note(
+        &mut self,
+        rt: &LibcRuntime,
+        name: &str,
+        agrees: bool,
+    ) -> Result<(), AnyError> {
         self.all = self.all.saturating_add(1);
         if agrees {
             self.agree = self.agree.saturating_add(1);

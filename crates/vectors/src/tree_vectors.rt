@@ -186,7 +186,7 @@ fn consistency_agrees(tree: &Tree, proof: &Proof) -> bool {
     }
 }
 
-pub fn run_tree_vectors(rt: &LibcRuntime, tally: &mut Tally) -> Result<(), AnyError> {
+pub(crate) fn run_tree_vectors(rt: &LibcRuntime, tally: &mut Tally) -> Result<(), AnyError> {
     let tree = grown(rt)?;
     for (count, root) in ROOTS.iter().enumerate() {
         let name = format!(rt.alloc(), "root of {count}")?;
