@@ -1,5 +1,5 @@
 -- The length and the bytes of a digest.
-use mathlib.Core.Path.{_≡_, refl}
+use mathlib.Core.Path.{refl}
 use mathlib.Core.List.{List, [], _∷_, _++_}
 use Prim.Native.Nat.{ℕ, zero, suc, _/_, _<_}
 use native.Mathlib.Omega.{arith}
@@ -9,7 +9,7 @@ use Rattle.sha256.specs.Standard.{H0, padded, blocks, hashed, bytes32, output,
 use Rattle.sha256.specs.declared.words.Words.{Words}
 use Rattle.sha256.specs.Theorems.{DigestLong, DigestBytes}
 
-pub digest-long : DigestLong 32
+pub digest-long : DigestLong
 unfolding digest output
 digest-long m = refl
 

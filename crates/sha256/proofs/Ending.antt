@@ -1,18 +1,18 @@
 -- The end of a message with its padding, and the digest that comes of it.
 use mathlib.Core.Path.{_≡_, refl, sym, ap, _∙_}
-use mathlib.Core.List.{List, [], _∷_, _++_}
+use mathlib.Core.List.{List, _∷_, _++_}
 use Prim.Native.Nat.{ℕ, suc, _+_, _-_, _*_, _/_, _%_, _^_, _≤_, _<_}
 use native.Mathlib.Nat.{zero-add}
 use native.Mathlib.Omega.{arith}
-use lib.ListN.{length, take, drop, set, replicate}
+use lib.ListN.{length, take, set, replicate}
 use Rattle.std.specs.shelf.Lists.{paste}
 use Rattle.std.proofs.shelf.Lists.{append-assoc, take-all, take-at, set-at, drop-replicate, replicate-append-replicate, length-append, length-replicate}
-use Rattle.sha256.specs.Standard.{H0, blocks, hashed, output, padded, zeros, bytes64, digest}
+use Rattle.sha256.specs.Standard.{blocks, hashed, output, padded, zeros, bytes64, digest}
 use Rattle.sha256.specs.Streaming.{Fed}
 use Rattle.sha256.specs.declared.hasher.Hasher.{Hasher}
 use Rattle.sha256.specs.declared.words.Words.{Words}
 use Rattle.sha256.proofs.Pasted.{take-paste}
-use Rattle.sha256.proofs.Feeding.{Over, fed-over, fed-filled, over-more}
+use Rattle.sha256.proofs.Feeding.{fed-over, fed-filled, over-more}
 
 -- zeros, with the rest of a message put in front, and a bit
 marked : (rest : List ℕ) → length rest < 128 → set (paste (replicate 128 0) 0 rest (length rest)) (length rest) 0x80 ≡ rest ++ 0x80 ∷ replicate (127 - length rest) 0

@@ -82,7 +82,7 @@ H0 =
 
 -- ---- padding
 
--- n as eight bytes, the highest first; what is above 2 ^ 64 is left out
+-- n modulo 2 ^ 64 as eight bytes, the highest first
 abbrev pub bytes64 : ℕ → List ℕ
 bytes64 n =
     (n / 2 ^ 56 % 256) ∷ (n / 2 ^ 48 % 256) ∷ (n / 2 ^ 40 % 256) ∷ (n / 2 ^ 32 % 256)
@@ -92,7 +92,8 @@ bytes64 n =
 abbrev pub zeros : ℕ → ℕ
 zeros n = (119 - n % 64) % 64
 
--- a message, a bit 1, the zeros, and the message's length in bits
+-- a message, a bit 1, the zeros, and the message's length in bits. The document's messages have fewer than 2 ^ 64 bits;
+-- a longer one's length is taken modulo that
 unfoldable pub padded : List ℕ → List ℕ
 padded m = m ++ 0x80 ∷ replicate (zeros (length m)) 0 ++ bytes64 (8 * length m)
 
@@ -107,7 +108,7 @@ unfoldable pub firstWords : ℕ → List ℕ → List ℕ
 firstWords zero bs = []
 firstWords (suc n) bs = firstWords n bs ++ wordAt bs n ∷ []
 
--- the message schedule up to W(16 + n): W(t) for t = 16 + n is made of W(t - 2), W(t - 7), W(t - 15) and W(t - 16)
+-- the first 16 + n words of the message schedule: from t = 16 on, W(t) is made of W(t - 2), W(t - 7), W(t - 15) and W(t - 16)
 unfoldable pub schedule : ℕ → List ℕ → List ℕ
 schedule zero bs = firstWords 16 bs
 schedule (suc n) bs =

@@ -5,9 +5,9 @@ use Prim.Native.Nat.{ℕ, _<_}
 use lib.ListN.{length, getD}
 use Rattle.sha256.specs.Standard.{digest}
 
--- every digest, of whatever message, has as many bytes
-abbrev pub DigestLong : ℕ → Type 0
-DigestLong n = (m : List ℕ) → length (digest m) ≡ n
+-- every digest, of whatever message, has 32 bytes
+abbrev pub DigestLong : Type 0
+DigestLong = (m : List ℕ) → length (digest m) ≡ 32
 
 -- and they are bytes
 abbrev pub DigestBytes : Type 0

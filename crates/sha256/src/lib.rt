@@ -1,4 +1,5 @@
-// SHA-256: of a message at once, of one that comes in parts, and of two digests under a tag.
+// SHA-256: of a message at once, of one that comes in parts, of two digests under a tag, and of four
+// such pairs at a time.
 ghost use mathlib.Core.Path.{_≡_};
 ghost use Rattle.sha256.specs.Standard.{digest};
 

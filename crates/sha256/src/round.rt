@@ -1,7 +1,8 @@
 // The 64 rounds of a block.
 //
-// A round's longest chain of sums starts at `h`. So the round's word is added to `h` one round
-// before, beside the chain: such words are called loaded.
+// A round's key is its word of the schedule with its constant added. The longest chain of sums of a
+// round starts at `h`, so the key is added to `h` one round before, beside the chain: such words are
+// called loaded.
 ghost use mathlib.Core.Path.{_≡_};
 ghost use Prim.Native.Nat.{_≤_, _<_};
 ghost use lib.ListN.{getD};

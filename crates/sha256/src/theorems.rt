@@ -4,14 +4,12 @@ ghost use lib.Chars.{codes};
 ghost use Rattle.sha256.specs.Standard.{digest};
 ghost use Rattle.sha256.specs.Theorems.{DigestLong, DigestBytes};
 
-const LENGTH: usize = 32;
-
 pub fn digest_len() -> usize
     ensures value { λ r. ⌜ r ≡ 32 ⌝ }
-    ensures long { λ r. ⌜ DigestLong r ⌝ }
+    ensures long { λ _. ⌜ DigestLong ⌝ }
     ensures bytes { λ _. ⌜ DigestBytes ⌝ }
 {
-    LENGTH
+    256 / 8
 }
 
 pub fn abc_digest() -> [u8; 32]

@@ -1,25 +1,24 @@
 // Tests of the hasher: a message of any length, cut in two anywhere, has the digest of the whole.
 ghost use mathlib.Core.Path.{_≡_};
 ghost use Rattle.sha256.specs.Standard.{digest};
-use sha256::Hasher;
-
-// The digest of a message that is fed in two parts.
-pub fn in_two(message: &[u8], at: usize) -> [u8; 32]
-    ensures { λ r. ⌜ r ≡ digest (now (message .entry)) ⌝ }
-{
-    let at = at.min(message.len());
-    let (front, back) = message.split_at(at);
-    let mut hasher = Hasher::new();
-    hasher.update(front);
-    hasher.update(back);
-    hasher.finalize()
-}
 
 #[cfg(test)]
 mod tests {
-    use super::*;
+    use sha256::Hasher;
     use sha256::sha256;
     use std::test::*;
+
+    // The digest of a message that is fed in two parts.
+    fn in_two(message: &[u8], at: usize) -> [u8; 32]
+        ensures { λ r. ⌜ r ≡ digest (now (message .entry)) ⌝ }
+    {
+        let at = at.min(message.len());
+        let (front, back) = message.split_at(at);
+        let mut hasher = Hasher::new();
+        hasher.update(front);
+        hasher.update(back);
+        hasher.finalize()
+    }
 
     #[test]
     fn every_split() -> Result<(), Fail> {

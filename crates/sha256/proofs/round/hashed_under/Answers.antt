@@ -1,5 +1,5 @@
 -- Each turn of the inner loop is one more round ahead.
-use mathlib.Core.Path.{refl, ap, _∙_}
+use mathlib.Core.Path.{ap, _∙_}
 use native.Mathlib.Omega.{arith}
 use Rattle.sha256.specs.Standard.{_⊞_, plus}
 use Rattle.sha256.specs.Steps.{ahead, turned, withH}

@@ -1,5 +1,4 @@
 use Prim.Native.Nat.{_-_}
-use native.Mathlib.Omega.{arith}
 use Rattle.sha256.proofs.Lanewise.{its, splat, both}
 use Rattle.sha256.proofs.schedule.rotated.Needs as need
 

@@ -1,7 +1,7 @@
 use mathlib.Core.Path.{sym, ap, _∙_}
 use mathlib.Core.List.{[]}
 use Rattle.sha256.specs.Standard.{digest}
-use Rattle.sha256_tests.proofs.in_two.Needs as need
+use Rattle.sha256_tests.proofs.tests.in_two.Needs as need
 
 pub returns : need.returns
 returns c =
