@@ -1,18 +1,17 @@
 -- How a line is cut at a comment, behind blanks and behind a word. Assumes nothing.
 use mathlib.Core.Path.{_≡_, refl, sym, ap, _∙_}
-use mathlib.Core.Bool.{Bool, true, false, cond}
+use mathlib.Core.Bool.{Bool, true, false}
 use mathlib.Core.List.{List, [], _∷_, _++_, map, append-assoc}
 use Prim.Native.Nat.{ℕ, zero, suc, _≤_, _<_}
 use native.Mathlib.Nat.{add-zero}
 use native.Mathlib.Omega.{arith}
 use lib.ListN.{length, getD, take, drop, length-drop}
 use lib.Seq.{getD-drop}
-use lib.Dec.{eqb}
 use denote.Ref.{RefT}
 use borrow.Author.Tests.{eq-eqb, ne-eqb}
 use Rattle.std.proofs.shelf.Tests.{cond-true, cond-false}
 use Rattle.std.proofs.shelf.Lists.{map-push}
-use Rattle.script.specs.Words.{blank, spoken, ends, longer, words}
+use Rattle.script.specs.Words.{blank, spoken, longer, words}
 
 pub spoken-to-comment : (s : List ℕ) (i : ℕ) → ((k : ℕ) → k < i → getD s k 0 ≡ 35 → ⊥) → getD s i 0 ≡ 35 → spoken s ≡ take i s
 unfolding spoken

@@ -2,3 +2,4 @@ mod Decimals
 mod Hexes
 mod Cuts
 mod Spoken
+mod Faults

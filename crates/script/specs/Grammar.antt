@@ -111,3 +111,7 @@ abbrev pub Line : List Word → Result (Option Command) Fault → Type 0
 Line ws (Ok None) = ws ≡ []
 Line ws (Ok (Some c)) = Says c ws
 Line ws (Err f) = Wrong ws f
+
+-- words that say a command have nothing wrong with them, though memory may be wanting for it
+abbrev pub FaultsAreFaults : Type 0
+FaultsAreFaults = (c : Command) (ws : List Word) (f : Fault) → Says c ws → Wrong ws f → f ≡ NoMemory

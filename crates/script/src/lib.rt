@@ -12,4 +12,5 @@ pub use hex::hex_reads_back;
 pub use hex::push_hex;
 pub use hex::to_hex;
 pub use number::decimal;
+pub use read::faults_are_faults;
 pub use read::read_line;

@@ -8,7 +8,7 @@ ghost use Rattle.std.specs.Of.Vec.{vec-items};
 ghost use Rattle.std.specs.Options.{Cases as ByName};
 ghost use Rattle.std.specs.Orderings.{Decides};
 ghost use Rattle.std.specs.Results.{Cases};
-ghost use Rattle.script.specs.Grammar.{Says, Wrong, Hexes, BadNumber, BadDigest, Line, Stands, name, texts, verbs};
+ghost use Rattle.script.specs.Grammar.{FaultsAreFaults, Says, Wrong, Hexes, BadNumber, BadDigest, Line, Stands, name, texts, verbs};
 ghost use Rattle.script.specs.Texts.{Decimal};
 ghost use Rattle.script.specs.Words.{spoken, words};
 use crate::command::Command;
@@ -173,3 +173,8 @@ pub fn read_line<'a>(heap: Global, line: &'a [u8]) -> Result<Option<Command<'a>>
     }
     Ok(Some(command(heap, words[0], &words[1..])?))
 }
+
+// A line that says a command is refused for want of memory alone.
+pub fn faults_are_faults()
+    ensures { λ _. ⌜ FaultsAreFaults ⌝ }
+{}

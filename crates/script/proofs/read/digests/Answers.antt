@@ -4,8 +4,8 @@ use lib.Seq.{take-all}
 use denote.Ref.{RefT}
 use Rattle.std.specs.Of.Vec.{vec-items}
 use Rattle.script.specs.Grammar.{Word, Hexes, texts}
-use mathlib.Core.Logic.{inl, inr}
-use Rattle.script.proofs.Spoken.{stands-at, hexes-more, handed-on}
+use mathlib.Core.Logic.{inl}
+use Rattle.script.proofs.Spoken.{stands-at, hexes-more}
 use Rattle.script.proofs.read.digests.Needs as need
 
 pub returns-in-rest : need.returns-in-rest

@@ -1,7 +1,6 @@
 use mathlib.Core.Path.{refl, ap}
 use mathlib.Core.List.{_∷_}
 use lib.Chars.{codes}
-use native.Mathlib.Omega.{arith}
 use Rattle.script.proofs.Spoken.{one-word, not-just}
 use Rattle.script.proofs.read.enter.Needs as need
 

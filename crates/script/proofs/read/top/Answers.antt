@@ -1,5 +1,5 @@
 use mathlib.Core.Path.{refl, ap}
-use mathlib.Core.List.{[], _∷_}
+use mathlib.Core.List.{_∷_}
 use lib.Chars.{codes}
 use native.Mathlib.Omega.{arith}
 use borrow.Author.Tests.{true-eqb, false-eqb}

@@ -6,7 +6,7 @@ use lib.ListN.{length, take, drop}
 use denote.Ref.{RefT}
 use borrow.Author.Tests.{true-eqb, false-eqb}
 use Rattle.std.specs.Of.Vec.{vec-items}
-use Rattle.script.specs.Words.{words, spoken}
+use Rattle.script.specs.Words.{words}
 use Rattle.script.proofs.Cuts.{first-word, one-word-more}
 use Rattle.script.proofs.words.split_words.Needs as need
 
