@@ -20,9 +20,8 @@ unfolding keysOf compress
 compress-keyed s bs = ap (plus s) (ahead-is-rounds (schedule 48 bs) (length-schedule 48 bs) s)
 
 -- the hash value t after the block b, which the keys are of
-pub lane-hash : (s s′ t : Words) (keys b′ : List ℕ) {b : List ℕ} → s ≡ s′ → keys ≡ keysOf b′ → b′ ≡ b → t ≡ plus s (ahead 64 keys s) → t ≡ compress s′ b
-lane-hash s s′ t keys b′ {b} p q r e =
-    e ∙ ap₂ (λ x k. plus x (ahead 64 k x)) p (q ∙ ap keysOf r) ∙ compress-keyed s′ b
+pub lane-hash : (s s′ t : Words) (keys b : List ℕ) → s ≡ s′ → keys ≡ keysOf b → t ≡ plus s (ahead 64 keys s) → t ≡ compress s′ b
+lane-hash s s′ t keys b p q e = e ∙ ap₂ (λ x k. plus x (ahead 64 k x)) p q ∙ compress-keyed s′ b
 
 pub hashed-append : (s : Words) (xs ys : List (List ℕ)) → hashed s (xs ++ ys) ≡ hashed (hashed s xs) ys
 unfolding hashed
