@@ -44,17 +44,6 @@ unfolding blocks
 chunked-is zero bs = refl
 chunked-is (suc n) bs = ap (λ r. take 64 bs ∷ r) (chunked-is n (drop 64 bs))
 
--- one more block of a list
-pub hashed-more : (s t : Words) (bs : List (List ℕ)) (i : ℕ) (d : List ℕ) → i < length bs → t ≡ compress s (getD bs i d) → hashed t (drop (i + 1) bs) ≡ hashed s (drop i bs)
-unfolding hashed
-hashed-more s t bs i d l e =
-    let open-it : hashed s (drop i bs) ≡ hashed (compress s (getD bs i d)) (drop (i + 1) bs) = at-drop-more (hashed s) bs i d l in
-    ap (λ h. hashed h (drop (i + 1) bs)) e ∙ sym open-it
-
-pub hashed-all : (s : Words) (bs : List (List ℕ)) (i : ℕ) → length bs ≤ i → hashed s (drop i bs) ≡ s
-unfolding hashed
-hashed-all s bs i l = at-drop-all (hashed s) bs i l
-
 -- ---- blocks by fours
 
 -- the blocks of all fours
