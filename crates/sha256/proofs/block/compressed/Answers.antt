@@ -9,8 +9,8 @@ loop-four-init c = (zeros_end, refl)
 
 pub loop-four-preserved : goal.loop-four-preserved
 loop-four-preserved c = (
-  c.compressed-lanes-words.ensures.ends,
-  fours_more _ _ _ _ _ c.loop-four-test.true (c.compressed-lanes-words.ensures.all refl) ∙ c.loop-four.invariant.1,
+  c.compressed_lanes-words.ensures.ends,
+  fours_more _ _ _ _ _ c.loop-four-test.true (c.compressed_lanes-words.ensures.all refl) ∙ c.loop-four.invariant.1,
 )
 
 pub returns-then-is-empty : goal.returns-then-is-empty
@@ -21,6 +21,6 @@ returns-then-is-empty c =
 
 pub returns : goal.returns
 returns c =
-    fours_then _ c.loop-four.words _ _ _ c.args.bytes.now _ _ _ c.as-chunks.ensures.front c.as-chunks-2.ensures.front c.as-chunks-2.ensures.back
+    fours_then _ c.loop-four.words _ _ _ c.args.bytes.now _ _ _ c.as_chunks.ensures.front c.as_chunks-2.ensures.front c.as_chunks-2.ensures.back
     (sym (fours_all _ _ _ c.loop-four-test.false) ∙ c.loop-four.invariant.1)
-    (c.compressed-lanes.ensures.value ∙ ap (hashed c.loop-four.words) c.as-four.ensures)
+    (c.compressed_lanes.ensures.value ∙ ap (hashed c.loop-four.words) c.as-four.ensures)

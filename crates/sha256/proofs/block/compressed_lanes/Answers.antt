@@ -7,10 +7,10 @@ use Rattle.sha256.proofs.block.compressed_lanes.Goals as goal
 pub returns : goal.returns
 returns c =
     let four = c.args.four.now in
-    let value : c.hashed-under-lanes.result ≡ hashed c.args.words (take c.args.count four) =
-    c.hashed-under-lanes.ensures ∙ lanes_hash c.args.count _ four c.args.words (omega arith) (λ l h. c.fill-keys.ensures.filled l (omega arith)) in
+    let value : c.hashed_under_lanes.result ≡ hashed c.args.words (take c.args.count four) =
+    c.hashed_under_lanes.ensures ∙ lanes_hash c.args.count _ four c.args.words (omega arith) (λ l h. c.fill_keys.ensures.filled l (omega arith)) in
     record {
       value = value;
       all = λ e. value ∙ ap (hashed c.args.words) (take_all c.args.count four (omega arith));
-      ends = c.fill-keys.ensures.ends;
+      ends = c.fill_keys.ensures.ends;
     }

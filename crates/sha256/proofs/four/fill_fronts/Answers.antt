@@ -4,10 +4,10 @@ use Rattle.sha256.proofs.Scheduled.{begun_none, begun_more, begun_at}
 use Rattle.sha256.proofs.four.fill_fronts.Goals as goal
 
 pub loop-t-init : goal.loop-t-init
-loop-t-init c = begun_more 0 _ _ _ (omega arith) (begun_none _ _ c.told-keys c.requires) c.first-words.ensures.value
+loop-t-init c = begun_more 0 _ _ _ (omega arith) (begun_none _ _ c.told-keys c.requires) c.first_words.ensures.value
 
 pub loop-t-preserved : goal.loop-t-preserved
-loop-t-preserved c = begun_more _ _ _ _ c.loop-t-test.true c.loop-t.invariant (c.later-words.ensures c.args.tag)
+loop-t-preserved c = begun_more _ _ _ _ c.loop-t-test.true c.loop-t.invariant (c.later_words.ensures c.args.tag)
 
 pub extend-keys-requires : goal.extend-keys-requires
 extend-keys-requires c = record { ends = c.loop-t.invariant.ends; within = omega arith }
@@ -16,7 +16,7 @@ pub returns : goal.returns
 unfolding schedule
 returns c =
     record {
-      filled = λ l h. c.extend-keys.ensures.filled l h _ ((begun_at _ 16 _ _ (omega arith) c.loop-t.invariant).words l h);
-      long = c.first-words.ensures.long;
-      ends = c.extend-keys.ensures.ends;
+      filled = λ l h. c.extend_keys.ensures.filled l h _ ((begun_at _ 16 _ _ (omega arith) c.loop-t.invariant).words l h);
+      long = c.first_words.ensures.long;
+      ends = c.extend_keys.ensures.ends;
     }

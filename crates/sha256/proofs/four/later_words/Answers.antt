@@ -10,5 +10,5 @@ returns c =
     let word : List ℕ → ℕ = λ p. word_at (tag ∷ take 63 p) c.args.t in
     let read : (k : ℕ) (d : List ℕ) → k < 4 → word (get_or ps k d) ≡ word (get_or ps k []) = λ k d h. ap word (get_or_default ps k d [] (omega arith)) in
     four_lanes (λ l. word (get_or ps l [])) 0 _ _ _ _
-    (c.later-word.ensures tag ∙ read 0 _ (omega arith)) (c.later-word-2.ensures tag ∙ read 1 _ (omega arith))
-    (c.later-word-3.ensures tag ∙ read 2 _ (omega arith)) (c.later-word-4.ensures tag ∙ read 3 _ (omega arith))
+    (c.later_word.ensures tag ∙ read 0 _ (omega arith)) (c.later_word-2.ensures tag ∙ read 1 _ (omega arith))
+    (c.later_word-3.ensures tag ∙ read 2 _ (omega arith)) (c.later-word-4.ensures tag ∙ read 3 _ (omega arith))

@@ -11,7 +11,7 @@ pub loop-lane-preserved : goal.loop-lane-preserved
 unfolding under_lanes
 loop-lane-preserved c =
     let keys = c.args.keys.now in
-    c.hashed-under-words.ensures
+    c.hashed_under-words.ensures
     ∙ ap (λ t. plus t (ahead 64 (column c.loop-lane.lane keys) t)) c.loop-lane.invariant
     ∙ ap (λ n. under_lanes n keys c.args.words) (sym (add-one c.loop-lane.lane))
 

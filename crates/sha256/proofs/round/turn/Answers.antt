@@ -4,4 +4,4 @@ use Rattle.sha256.proofs.round.turn.Goals as goal
 
 pub returns : goal.returns
 unfolding turned
-returns c = rw (c.big-sigma-1.ensures, c.choose.ensures, c.big-sigma-0.ensures, c.majority.ensures)
+returns c = rw (c.big_sigma_1.ensures, c.choose.ensures, c.big_sigma_0.ensures, c.majority.ensures)

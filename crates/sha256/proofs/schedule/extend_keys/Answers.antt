@@ -19,8 +19,8 @@ loop-j-preserved c =
     let w = c.loop-j.keys in
     let t = 16 + 8 * c.loop-i.i + c.loop-j.j in
     let long = c.loop-j.invariant.long in
-    made_more _ t _ _ w c.next-words.result (omega arith) (omega arith) (omega arith) c.loop-j.invariant
-    (λ l h. c.next-words.ensures l h
+    made_more _ t _ _ w c.next_words.result (omega arith) (omega arith) (omega arith) c.loop-j.invariant
+    (λ l h. c.next_words.ensures l h
     ∙ rw (column_at l w (t - 2) _ (omega arith), column_at l w (t - 7) _ (omega arith), column_at l w (t - 15) _ (omega arith), column_at l w (t - 16) _ (omega arith)))
 
 pub loop-i-preserved : goal.loop-i-preserved
@@ -35,13 +35,13 @@ loop-t-preserved c =
     let w = c.loop-t.keys in
     let t = c.loop-t.t in (
       simp length-set c.loop-t.invariant.0,
-      ends_set w t c.key-lanes.result (omega arith) c.loop-t.invariant.1,
+      ends_set w t c.key_lanes.result (omega arith) c.loop-t.invariant.1,
       λ i h b e. let long : length (column i was) ≡ 65 = simp length-map c.loop-i.invariant.long in
           let so_far = c.loop-t.invariant.2 i h b e in
           let word : get_or (column i was) t 0 ≡ get_or (schedule 48 b) t 0 = sym (get_or-take 64 (column i was) t 0 c.loop-t-test.true) ∙ ap (λ v. get_or v t 0) e in
-          column_set i w t c.key-lanes.result
+          column_set i w t c.key_lanes.result
           ∙ keys_more b (column i was) long (column i w) t _ c.loop-t-test.true so_far
-          (c.key-lanes.ensures i h
+          (c.key_lanes.ensures i h
           ∙ ap₂ ◌⊞◌ c.constant.ensures (column_at i w t _ (omega arith) ∙ keys_left b (column i was) long (column i w) t c.loop-t-test.true so_far ∙ word)
           ),
     )

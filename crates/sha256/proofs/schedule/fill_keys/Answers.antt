@@ -7,7 +7,7 @@ pub loop-t-init : goal.loop-t-init
 loop-t-init c = begun_none _ _ c.told-keys c.requires
 
 pub loop-t-preserved : goal.loop-t-preserved
-loop-t-preserved c = begun_more _ _ _ _ c.loop-t-test.true c.loop-t.invariant c.words-at.ensures
+loop-t-preserved c = begun_more _ _ _ _ c.loop-t-test.true c.loop-t.invariant c.words_at.ensures
 
 pub extend-keys-requires : goal.extend-keys-requires
 extend-keys-requires c = record { ends = c.loop-t.invariant.ends; within = omega arith }
@@ -16,6 +16,6 @@ pub returns : goal.returns
 unfolding schedule
 returns c =
     record {
-      filled = λ l h. c.extend-keys.ensures.filled l h _ ((begun_at _ 16 _ _ (omega arith) c.loop-t.invariant).words l h);
-      ends = c.extend-keys.ensures.ends;
+      filled = λ l h. c.extend_keys.ensures.filled l h _ ((begun_at _ 16 _ _ (omega arith) c.loop-t.invariant).words l h);
+      ends = c.extend_keys.ensures.ends;
     }

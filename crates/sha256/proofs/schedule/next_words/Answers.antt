@@ -6,7 +6,7 @@ pub returns : goal.returns
 returns c =
     λ l h. (both l h _
     (both l h _
-    (both l h _ (told l h (omega arith) (c.small-sigma-1.ensures l h)) (its l h c.args.by7 c.fits-by7.0))
-    (told l h (omega arith) (c.small-sigma-0.ensures l h))
+    (both l h _ (told l h (omega arith) (c.small_sigma_1.ensures l h)) (its l h c.args.by7 c.fits-by7.0))
+    (told l h (omega arith) (c.small_sigma_0.ensures l h))
     )
     (its l h c.args.by16 c.fits-by16.0)).is

@@ -6,7 +6,7 @@ use Rattle.sha256.proofs.hasher.Hasher.update.Goals as goal
 
 pub returns-then-filled-eq0 : goal.returns-then-filled-eq0
 returns-then-filled-eq0 c =
-    λ m f. fed_empty m c.args.part.now c.args.self.now c.take-in.new.self f (omega arith) c.take-in.ensures.count c.take-in.ensures.words c.take-in.ensures.buffer
+    λ m f. fed_empty m c.args.part.now c.args.self.now c.take_in.new.self f (omega arith) c.take_in.ensures.count c.take_in.ensures.words c.take_in.ensures.buffer
 
 pub returns-then-part-room : goal.returns-then-part-room
 returns-then-part-room c =
@@ -17,11 +17,11 @@ returns-then-part-room c =
 pub returns : goal.returns
 returns c =
     let s = c.args.self.now in
-    let p = c.split-at.result.0.now in
-    let q = c.split-at.result.1.now in
+    let p = c.split_at.result.0.now in
+    let q = c.split_at.result.1.now in
     let b = c.keep-2.new.self.buffer in
-    let whole : c.args.part.now ≡ p ++ q = c.split-at.ensures.by_index.0 in
-    λ m f. rw whole (fed_past m p q s c.take-in-2.new.self b c.compressed-self.result f (omega arith) (omega arith)
+    let whole : c.args.part.now ≡ p ++ q = c.split_at.ensures.by_index.0 in
+    λ m f. rw whole (fed_past m p q s c.take_in-2.new.self b c.compressed-self.result f (omega arith) (omega arith)
     (c.keep-2.ensures.buffer ∙ ap (λ at. paste s.buffer at p (length p)) c.filled-filled.ensures)
     (c.compressed-self.ensures ∙ ap (λ w. hashed w (blocks (length b / 64) b)) c.keep-2.ensures.words)
-    (c.take-in-2.ensures.count ∙ c.keep-2.ensures.count ∙ ap (λ x. (s.count + length x) % 2 ^ 64) whole) c.take-in-2.ensures.words c.take-in-2.ensures.buffer)
+    (c.take_in-2.ensures.count ∙ c.keep-2.ensures.count ∙ ap (λ x. (s.count + length x) % 2 ^ 64) whole) c.take_in-2.ensures.words c.take_in-2.ensures.buffer)

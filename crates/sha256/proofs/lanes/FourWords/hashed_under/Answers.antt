@@ -29,4 +29,4 @@ loop-i-preserved c = λ k h. ahead_at _ _ _ _ _ (omega arith) (c.loop-j.invarian
 
 pub returns : goal.returns
 returns c =
-    λ k h. c.plus-words.ensures k h ∙ ap (plus (lane_of k c.args.self)) (ahead_at _ _ _ _ _ (omega arith) (c.loop-i.invariant k h))
+    λ k h. c.plus_words.ensures k h ∙ ap (plus (lane_of k c.args.self)) (ahead_at _ _ _ _ _ (omega arith) (c.loop-i.invariant k h))

@@ -11,8 +11,8 @@ returns c =
       c.sum-t1.ensures l h,
       c.sum-t2.ensures l h,
       c.sum.ensures l h,
-      c.big-sigma-1.ensures l h,
+      c.big_sigma_1.ensures l h,
       c.choose.ensures l h,
-      c.big-sigma-0.ensures l h,
+      c.big_sigma_0.ensures l h,
       c.majority.ensures l h,
     )
