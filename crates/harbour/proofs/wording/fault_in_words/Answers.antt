@@ -13,4 +13,4 @@ pub returns-in-NotADigest : goal.returns-in-NotADigest
 returns-in-NotADigest c = worded c.quoted-in-NotADigest.result _ _ (ap fault_text (sym c.in-NotADigest.is)) c.quoted-in-NotADigest.ensures
 
 pub returns-in-NoMemory : goal.returns-in-NoMemory
-returns-in-NoMemory c = worded c.from-str.result _ _ (ap fault_text (sym c.in-NoMemory.is)) c.from-str.ensures.ok
+returns-in-NoMemory c = worded c.from_str.result _ _ (ap fault_text (sym c.in-NoMemory.is)) c.from_str.ensures.ok

@@ -11,8 +11,8 @@ pub loop-digest-preserved : goal.loop-digest-preserved
 loop-digest-preserved c =
     spaced_more c.args.digests.now c.loop-digest.digest-index _ _ _ _ _ _ c.loop-digest-test.true c.loop-digest.invariant
     c.in-ok-push.ensures.bytes (c.push.ensures.ascii (omega arith))
-    c.in-ok-push-str.ensures.bytes (c.as-str.ensures.value ∙ c.in-ok-hex.ensures)
+    c.in-ok-push_str.ensures.bytes (c.as_str.ensures.value ∙ c.in-ok-hex.ensures)
 
 pub returns : goal.returns
 returns c =
-    listed_all _ _ (omega (arith, false-eqb _ 0 c.if-is-empty.ensures)) (c.loop-digest.invariant ∙ ap spaced (take_all _ _ c.loop-digest-test.false))
+    listed_all _ _ (omega (arith, false-eqb _ 0 c.if-is_empty.ensures)) (c.loop-digest.invariant ∙ ap spaced (take_all _ _ c.loop-digest-test.false))

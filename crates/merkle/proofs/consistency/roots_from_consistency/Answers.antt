@@ -9,5 +9,5 @@ returns-in-err-turns c =
     let old = c.args.earlier.now in
     let proof = c.args.proof.now in
     let last : c.args.from ≡ c.args.from - 1 + 1 = omega arith in
-    ap as_roots c.from-residual.ensures
+    ap as_roots c.from_residual.ensures
     ∙ sym (ap (λ m. roots_from_consistency node_of m c.args.to true old proof) last ∙ c.in-err-turns.ensures old proof refl)

@@ -19,10 +19,10 @@ down-preserved c = (
   proof_down c.args.count c.args.place c.args.levels c.down.way c.down.invariant.1 c.down-way.result (λ e. c.if-way.false (omega arith)) (omega arith) (c.down-way.ensures.side, c.down-way.ensures.level),
 )
 
-pub returns-then-proof-length-levels : goal.returns-then-proof-length-levels
-returns-then-proof-length-levels c =
-    proof_right c.args.count c.args.place c.args.levels c.down.way c.down.invariant.1 (omega arith) (sym c.proof-length.ensures ∙ c.if-proof-length-levels.true)
+pub returns-then-proof_length-levels : goal.returns-then-proof_length-levels
+returns-then-proof_length-levels c =
+    proof_right c.args.count c.args.place c.args.levels c.down.way c.down.invariant.1 (omega arith) (sym c.proof_length.ensures ∙ c.if-proof_length-levels.true)
 
-pub returns-else-proof-length-levels : goal.returns-else-proof-length-levels
-returns-else-proof-length-levels c =
-    proof_wrong c.args.count c.args.place c.args.levels c.down.way c.down.invariant.1 (omega arith) (λ e. c.if-proof-length-levels.false (c.proof-length.ensures ∙ e)) c.down.invariant.0
+pub returns-else-proof_length-levels : goal.returns-else-proof_length-levels
+returns-else-proof_length-levels c =
+    proof_wrong c.args.count c.args.place c.args.levels c.down.way c.down.invariant.1 (omega arith) (λ e. c.if-proof_length-levels.false (c.proof_length.ensures ∙ e)) c.down.invariant.0

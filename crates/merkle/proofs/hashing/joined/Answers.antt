@@ -3,9 +3,9 @@ use Rattle.merkle.proofs.Rows.{both_halves, second_written}
 use Rattle.merkle.proofs.hashing.joined.Goals as goal
 
 pub slice-bounds-both-end-2 : goal.slice-bounds-both-end-2
-slice-bounds-both-end-2 c = both_halves c.copy-from-slice.new.self (replicate 32 0) c.copy-from-slice.ensures.len refl
+slice-bounds-both-end-2 c = both_halves c.copy_from_slice.new.self (replicate 32 0) c.copy_from_slice.ensures.len refl
 
 pub returns : goal.returns
 returns c =
-    second_written c.copy-from-slice.new.self (replicate 32 0) c.copy-from-slice-2.new.self c.copy-from-slice.ensures.len refl
-    ∙ ap₂ ◌++◌ c.copy-from-slice.ensures.after c.copy-from-slice-2.ensures.after
+    second_written c.copy_from_slice.new.self (replicate 32 0) c.copy_from_slice-2.new.self c.copy_from_slice.ensures.len refl
+    ∙ ap₂ ◌++◌ c.copy_from_slice.ensures.after c.copy_from_slice-2.ensures.after

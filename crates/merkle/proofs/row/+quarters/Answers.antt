@@ -21,8 +21,8 @@ pub returns : goal.returns
 returns t c =
     let (power, halves, less) = halved c.args.size c.requires.power c.if-size-eq1.false in
     let d : Digest = record { bytes = [] } in
-    c.node-digests.ensures
+    c.node_digests.ensures
     ∙ (ap₂ (λ (xs ys : List Digest). nodes_over (get_or xs 0 d ∷ (get_or xs 1 d ∷ (get_or xs 2 d ∷ (get_or xs 3 d ∷ (get_or ys 0 d ∷ (get_or ys 1 d ∷ (get_or ys 2 d ∷ (get_or ys 3 d ∷ [])))))))))
     c.quarters-a.ensures c.quarters-b.ensures
-    ∙ four_of_eight (c.args.size / 2) c.args.size c.args.row.now c.split-at.result.0.now c.split-at.result.1.now halves power c.requires.long
-    c.split-at.ensures.front c.split-at.ensures.back)
+    ∙ four_of_eight (c.args.size / 2) c.args.size c.args.row.now c.split_at.result.0.now c.split_at.result.1.now halves power c.requires.long
+    c.split_at.ensures.front c.split_at.ensures.back)

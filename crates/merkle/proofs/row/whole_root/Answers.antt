@@ -5,6 +5,6 @@ use Rattle.merkle.proofs.row.whole_root.Goals as goal
 
 pub returns : goal.returns
 returns c =
-    c.node-digest-3.ensures
-    ∙ (ap₂ node_of c.node_digest.ensures c.node-digest-2.ensures
+    c.node_digest-3.ensures
+    ∙ (ap₂ node_of c.node_digest.ensures c.node_digest-2.ensures
     ∙ root-of_four c.args.size c.args.row.now c.quarters-roots.result (record { bytes = [] }) c.requires.power c.requires.long c.quarters-roots.ensures)

@@ -4,7 +4,7 @@ use Rattle.merkle_tree.proofs.Fills.{row_begins, row_has_none, too_few}
 use Rattle.merkle_tree.proofs.fill.fill.Goals as goal
 
 pub up-preserved : goal.up-preserved
-up-preserved c = (omega arith, c.join-row.ensures c.args.from (row_begins (2 * c.up.size) (omega arith) c.up.invariant.1))
+up-preserved c = (omega arith, c.join_row.ensures c.args.from (row_begins (2 * c.up.size) (omega arith) c.up.invariant.1))
 
 pub returns-after-up : goal.returns-after-up
 returns-after-up c = record { paired = omega arith; kept = too_few (omega arith) c.up.invariant.1 }

@@ -8,16 +8,16 @@ use Rattle.merkle_tree.proofs.subtree.+subtree.Goals as goal
 pub returns-then-first-size : goal.returns-then-first-size
 returns-then-first-size t c =
     c.whole-left.ensures
-    ∙ (first_kept c.requires.subtree c.args.mids.now _ c.first-whole-first.ensures.value c.requires.kept
+    ∙ (first_kept c.requires.subtree c.args.mids.now _ c.first_whole-first.ensures.value c.requires.kept
     ∙ ap (λ (n : ℕ). root_of (part c.args.from n c.args.leaves.now)) c.if-first-size.true)
 
 pub subtree-right-requires : goal.subtree-right-requires
 subtree-right-requires t c =
-    let left = first_is_left c.requires.subtree _ c.first-whole-first.ensures.value c.if-first-size.false in
-    (omega arith, (right_side c.requires.subtree (omega arith) c.first-whole-first.result left, (c.requires.paired, c.requires.kept)))
+    let left = first_is_left c.requires.subtree _ c.first_whole-first.ensures.value c.if-first-size.false in
+    (omega arith, (right_side c.requires.subtree (omega arith) c.first_whole-first.result left, (c.requires.paired, c.requires.kept)))
 
 pub returns : goal.returns
 returns t c =
     c.node_digest.ensures
-    ∙ (ap₂ node_of (c.whole-left.ensures ∙ first_kept c.requires.subtree c.args.mids.now _ c.first-whole-first.ensures.value c.requires.kept) c.subtree-right.ensures
-    ∙ root-of_first c.requires.subtree _ c.first-whole-first.ensures.value c.if-first-size.false)
+    ∙ (ap₂ node_of (c.whole-left.ensures ∙ first_kept c.requires.subtree c.args.mids.now _ c.first_whole-first.ensures.value c.requires.kept) c.subtree-right.ensures
+    ∙ root-of_first c.requires.subtree _ c.first_whole-first.ensures.value c.if-first-size.false)

@@ -9,7 +9,7 @@ loop-b-init c = c.new_text.ensures.bytes
 
 pub loop-b-preserved : goal.loop-b-preserved
 loop-b-preserved c =
-    hex_more c.args.digest.now.bytes c.loop-b.b-index _ _ (omega arith) c.loop-b.invariant c.in-ok-push-hex.ensures
+    hex_more c.args.digest.now.bytes c.loop-b.b-index _ _ (omega arith) c.loop-b.invariant c.in-ok-push_hex.ensures
 
 pub returns : goal.returns
 returns c =

@@ -8,7 +8,7 @@ pub returns-in-err-n : goal.returns-in-err-n
 returns-in-err-n c =
     let word = c.args.word.now in
     let i = c.loop-b.b-index in
-    rw c.from-residual.ensures
+    rw c.from_residual.ensures
     (⊎_elim (not_a_digit word i c.loop-b-test.true) (too_large word i c.loop-b.n c.loop-b-test.true c.loop-b.invariant.1) c.in-err-n.ensures)
 
 pub loop-b-preserved : goal.loop-b-preserved
@@ -21,4 +21,4 @@ loop-b-preserved c =
 
 pub returns : goal.returns
 returns c =
-    decimal_of_all _ c.loop-b.b-index _ c.loop-b-test.false (omega (arith, false-eqb _ 0 c.if-is-empty.ensures)) c.loop-b.invariant.0 c.loop-b.invariant.1 c.loop-b.invariant.2
+    decimal_of_all _ c.loop-b.b-index _ c.loop-b-test.false (omega (arith, false-eqb _ 0 c.if-is_empty.ensures)) c.loop-b.invariant.0 c.loop-b.invariant.1 c.loop-b.invariant.2

@@ -8,12 +8,12 @@ returns-then-args-lt2 c = (refl, not_at_least c.args.args.now 2 c.if-args-lt2.tr
 
 pub returns-in-err-from : goal.returns-in-err-from
 returns-in-err-from c =
-    handed_on _ _ c.from-residual.result c.in-err-from.field-0.0 c.from-residual.ensures.1
+    handed_on _ _ c.from_residual.result c.in-err-from.field-0.0 c.from_residual.ensures.1
     (bad_number _ c.args.args.now _ _ (λ _. refl) (omega arith) c.in-err-from.ensures)
 
 pub returns-in-err-proof : goal.returns-in-err-proof
 returns-in-err-proof c =
-    handed_on _ _ c.from-residual-in-err-proof.result c.in-err-proof.field-0.0 c.from-residual-in-err-proof.ensures.1
+    handed_on _ _ c.from_residual-in-err-proof.result c.in-err-proof.field-0.0 c.from_residual-in-err-proof.ensures.1
     (bad_digest _ c.args.args.now 2 _ (λ _. refl) (rw (take_rest c.args.args.now 2) at c.in-err-proof.ensures))
 
 pub returns : goal.returns

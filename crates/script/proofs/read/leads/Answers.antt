@@ -8,12 +8,12 @@ returns-then-args-lt3 c = (refl, not_at_least c.args.args.now 3 c.if-args-lt3.tr
 
 pub returns-in-err-place : goal.returns-in-err-place
 returns-in-err-place c =
-    handed_on _ _ c.from-residual.result c.in-err-place.field-0.0 c.from-residual.ensures.1
+    handed_on _ _ c.from_residual.result c.in-err-place.field-0.0 c.from_residual.ensures.1
     (bad_number _ c.args.args.now _ _ (λ _. refl) (omega arith) c.in-err-place.ensures)
 
 pub returns-in-err-path : goal.returns-in-err-path
 returns-in-err-path c =
-    handed_on _ _ c.from-residual-in-err-path.result c.in-err-path.field-0.0 c.from-residual-in-err-path.ensures.1
+    handed_on _ _ c.from_residual-in-err-path.result c.in-err-path.field-0.0 c.from_residual-in-err-path.ensures.1
     (bad_digest _ c.args.args.now 3 _ (λ _. refl) (rw (take_rest c.args.args.now 3) at c.in-err-path.ensures))
 
 pub returns : goal.returns

@@ -7,7 +7,7 @@ returns-then-args-ne2 c = (refl, not_just c.args.args.now 2 c.if-args-ne2.true)
 
 pub returns-in-err-from : goal.returns-in-err-from
 returns-in-err-from c =
-    handed_on _ _ c.from-residual.result c.in-err-from.field-0.0 c.from-residual.ensures.1
+    handed_on _ _ c.from_residual.result c.in-err-from.field-0.0 c.from_residual.ensures.1
     (bad_number _ c.args.args.now _ _ (λ _. refl) (omega arith) c.in-err-from.ensures)
 
 pub returns : goal.returns

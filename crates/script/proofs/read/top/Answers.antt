@@ -2,11 +2,11 @@ use Rattle.std.proofs.Common.{◌∷◌, codes, refl, ap, arith, true-eqb, false
 use Rattle.script.proofs.Spoken.{no_words, one_word, first_stands, not_at_most}
 use Rattle.script.proofs.read.top.Goals as goal
 
-pub returns-then-is-empty : goal.returns-then-is-empty
-returns-then-is-empty c = ap (λ ws. codes "top" ∷ ws) (no_words c.args.args.now (true-eqb _ 0 c.if-is-empty.ensures))
+pub returns-then-is_empty : goal.returns-then-is_empty
+returns-then-is_empty c = ap (λ ws. codes "top" ∷ ws) (no_words c.args.args.now (true-eqb _ 0 c.if-is_empty.ensures))
 
 pub returns-then-args-ne1 : goal.returns-then-args-ne1
-returns-then-args-ne1 c = (refl, not_at_most c.args.args.now 1 (omega (arith, false-eqb _ 0 c.if-is-empty.ensures)))
+returns-then-args-ne1 c = (refl, not_at_most c.args.args.now 1 (omega (arith, false-eqb _ 0 c.if-is_empty.ensures)))
 
 pub returns-in-default : goal.returns-in-default
 returns-in-default c = (first_stands c.args.args.now _ (omega arith), c.in-default.ensures)

@@ -7,7 +7,7 @@ returns-then-args-ne2 c = (refl, not_just c.args.args.now 2 c.if-args-ne2.true)
 
 pub returns-in-err-place : goal.returns-in-err-place
 returns-in-err-place c =
-    handed_on _ _ c.from-residual.result c.in-err-place.field-0.0 c.from-residual.ensures.1
+    handed_on _ _ c.from_residual.result c.in-err-place.field-0.0 c.from_residual.ensures.1
     (bad_number _ c.args.args.now _ _ (λ _. refl) (omega arith) c.in-err-place.ensures)
 
 pub returns : goal.returns

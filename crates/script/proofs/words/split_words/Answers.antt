@@ -5,8 +5,8 @@ use Rattle.script.proofs.words.split_words.Goals as goal
 
 pub loop-rest-init : goal.loop-rest-init
 loop-rest-init c = (
-  simp c.new-found.ensures.items (c.skip-blanks-rest.ensures.same ∙ ap words c.without-comment.ensures),
-  c.skip-blanks-rest.ensures.first,
+  simp c.new-found.ensures.items (c.skip_blanks-rest.ensures.same ∙ ap words c.without_comment.ensures),
+  c.skip_blanks-rest.ensures.first,
 )
 
 some_left : (c : goal.After-skip-blanks-rest-in-loop-rest) → 0 < length c.loop-rest.rest.now
@@ -19,12 +19,12 @@ word c =
 
 pub loop-rest-preserved : goal.loop-rest-preserved
 loop-rest-preserved c =
-    let next = c.skip-blanks-rest-in-loop-rest.ensures in
-    let split = c.split-at.ensures in
+    let next = c.skip_blanks-rest-in-loop-rest.ensures in
+    let split = c.split_at.ensures in
     (one_word_more _ _ _ _ _ _ _ _ c.in-ok-push.ensures.items split.front split.back next.same (word c).1 c.loop-rest.invariant.0, next.first)
 
 pub loop-rest-smaller : goal.loop-rest-smaller
-loop-rest-smaller c = omega (arith, (word c).0, c.split-at.ensures.back_len, c.skip-blanks-rest-in-loop-rest.ensures.shorter, c.run.ensures.within)
+loop-rest-smaller c = omega (arith, (word c).0, c.split_at.ensures.back_len, c.skip_blanks-rest-in-loop-rest.ensures.shorter, c.run.ensures.within)
 
 nothing_left : (s : List ℕ) → length s ≡ 0 → words s ≡ []
 unfolding words

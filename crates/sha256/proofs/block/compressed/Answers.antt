@@ -13,14 +13,14 @@ loop-four-preserved c = (
   fours_more _ _ _ _ _ c.loop-four-test.true (c.compressed_lanes-words.ensures.all refl) ∙ c.loop-four.invariant.1,
 )
 
-pub returns-then-is-empty : goal.returns-then-is-empty
-returns-then-is-empty c =
-    fours_then _ c.loop-four.words _ _ _ c.args.bytes.now _ _ _ c.as-chunks.ensures.front c.as-chunks-2.ensures.front c.as-chunks-2.ensures.back
+pub returns-then-is_empty : goal.returns-then-is_empty
+returns-then-is_empty c =
+    fours_then _ c.loop-four.words _ _ _ c.args.bytes.now _ _ _ c.as_chunks.ensures.front c.as_chunks-2.ensures.front c.as_chunks-2.ensures.back
     (sym (fours_all _ _ _ c.loop-four-test.false) ∙ c.loop-four.invariant.1)
-    (hashed_nil c.loop-four.words c.as-chunks-2.result.1.now (true-eqb _ 0 c.if-is-empty.ensures))
+    (hashed_nil c.loop-four.words c.as_chunks-2.result.1.now (true-eqb _ 0 c.if-is_empty.ensures))
 
 pub returns : goal.returns
 returns c =
     fours_then _ c.loop-four.words _ _ _ c.args.bytes.now _ _ _ c.as_chunks.ensures.front c.as_chunks-2.ensures.front c.as_chunks-2.ensures.back
     (sym (fours_all _ _ _ c.loop-four-test.false) ∙ c.loop-four.invariant.1)
-    (c.compressed_lanes.ensures.value ∙ ap (hashed c.loop-four.words) c.as-four.ensures)
+    (c.compressed_lanes.ensures.value ∙ ap (hashed c.loop-four.words) c.as_four.ensures)

@@ -48,8 +48,8 @@ loop-t-3-preserved c =
     (λ l h. c.next_words-in-loop-t-3.ensures l h
     ∙ rw (column_at l w (t - 2) _ (omega arith), column_at l w (t - 7) _ (omega arith), column_at l w (t - 15) _ (omega arith), column_at l w (t - 16) _ (omega arith)))
 
-pub extend-keys-requires : goal.extend-keys-requires
-extend-keys-requires c = record { ends = c.loop-t-3.invariant.ends; within = omega arith }
+pub extend_keys-requires : goal.extend_keys-requires
+extend_keys-requires c = record { ends = c.loop-t-3.invariant.ends; within = omega arith }
 
 pub returns : goal.returns
 unfolding schedule

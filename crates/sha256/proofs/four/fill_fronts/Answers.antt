@@ -9,8 +9,8 @@ loop-t-init c = begun_more 0 _ _ _ (omega arith) (begun_none _ _ c.told-keys c.r
 pub loop-t-preserved : goal.loop-t-preserved
 loop-t-preserved c = begun_more _ _ _ _ c.loop-t-test.true c.loop-t.invariant (c.later_words.ensures c.args.tag)
 
-pub extend-keys-requires : goal.extend-keys-requires
-extend-keys-requires c = record { ends = c.loop-t.invariant.ends; within = omega arith }
+pub extend_keys-requires : goal.extend_keys-requires
+extend_keys-requires c = record { ends = c.loop-t.invariant.ends; within = omega arith }
 
 pub returns : goal.returns
 unfolding schedule

@@ -11,4 +11,4 @@ returns c =
     let read : (k : ℕ) (d : List ℕ) → k < 4 → word (get_or ps k d) ≡ word (get_or ps k []) = λ k d h. ap word (get_or_default ps k d [] (omega arith)) in
     four_lanes (λ l. word (get_or ps l [])) 0 _ _ _ _
     (c.later_word.ensures tag ∙ read 0 _ (omega arith)) (c.later_word-2.ensures tag ∙ read 1 _ (omega arith))
-    (c.later_word-3.ensures tag ∙ read 2 _ (omega arith)) (c.later-word-4.ensures tag ∙ read 3 _ (omega arith))
+    (c.later_word-3.ensures tag ∙ read 2 _ (omega arith)) (c.later_word-4.ensures tag ∙ read 3 _ (omega arith))

@@ -7,8 +7,8 @@ use Rattle.sha256.proofs.Nodes.{two_blocks}
 use Rattle.sha256.proofs.Whole.{lane_hash}
 use Rattle.sha256.proofs.four.sha256_four.Goals as goal
 
-pub fill-fronts-requires : goal.fill-fronts-requires
-fill-fronts-requires c = zeros_end
+pub fill_fronts-requires : goal.fill_fronts-requires
+fill_fronts-requires c = zeros_end
 
 pub returns : goal.returns
 unfolding H0
@@ -18,7 +18,7 @@ returns c =
     let node : (l : ℕ) → l < 4 → output (lane_of l last) ≡ digest (c.args.tag ∷ get_or pairs l []) =
     λ l h. two_blocks c.args.tag (get_or pairs l []) (lane_of l c.hashed_under-middle.result) (lane_of l last) (c.fill_fronts.ensures.long l h)
     (lane_hash _ _ _ _ _ (c.splat.ensures l h) (c.fill_fronts.ensures.filled l h) (c.hashed_under-middle.ensures l h))
-    (lane_hash _ _ _ _ _ refl (c.fill-backs.ensures l h) (c.hashed_under-last.ensures l h)) in
+    (lane_hash _ _ _ _ _ refl (c.fill_backs.ensures l h) (c.hashed_under-last.ensures l h)) in
     four_lanes (λ l. digest (c.args.tag ∷ get_or pairs l [])) [] _ _ _ _
-    (c.to-bytes.ensures ∙ ap output c.lane.ensures ∙ node 0 (omega arith)) (c.to-bytes-2.ensures ∙ ap output c.lane-2.ensures ∙ node 1 (omega arith))
-    (c.to-bytes-3.ensures ∙ ap output c.lane-3.ensures ∙ node 2 (omega arith)) (c.to-bytes-4.ensures ∙ ap output c.lane-4.ensures ∙ node 3 (omega arith))
+    (c.to_bytes.ensures ∙ ap output c.lane.ensures ∙ node 0 (omega arith)) (c.to_bytes-2.ensures ∙ ap output c.lane-2.ensures ∙ node 1 (omega arith))
+    (c.to_bytes-3.ensures ∙ ap output c.lane-3.ensures ∙ node 2 (omega arith)) (c.to_bytes-4.ensures ∙ ap output c.lane-4.ensures ∙ node 3 (omega arith))

@@ -16,7 +16,7 @@ loop-first-preserved c =
     λ all. let h = c.in-Some.ensures in
     let before = c.loop-first.invariant all in
     let step = first_of_all _ _ _ h.1 h.0 before.0 in
-    (step.0, one_line_more _ _ (certificate_of c.in-Some.first) _ _ _ _ _ _ step.1 before.1 c.in-ok-push.ensures.bytes (c.push.ensures.ascii (omega arith)) c.in-ok-push-str.ensures.bytes (c.as-str.ensures.value ∙ c.in-ok-words.ensures))
+    (step.0, one_line_more _ _ (certificate_of c.in-Some.first) _ _ _ _ _ _ step.1 before.1 c.in-ok-push.ensures.bytes (c.push.ensures.ascii (omega arith)) c.in-ok-push_str.ensures.bytes (c.as_str.ensures.value ∙ c.in-ok-words.ensures))
 
 pub returns : goal.returns
 returns c =

@@ -5,4 +5,4 @@ use Rattle.wire.proofs.field.word_at.Goals as goal
 
 pub returns : goal.returns
 unfolding number
-returns c = written_at _ 3 c.args.at _ c.requires refl (search rules, (search rules, (search rules, (search rules, tt)))) (omega (arith, c.from-be-bytes.ensures))
+returns c = written_at _ 3 c.args.at _ c.requires refl (search rules, (search rules, (search rules, (search rules, tt)))) (omega (arith, c.from_be_bytes.ensures))

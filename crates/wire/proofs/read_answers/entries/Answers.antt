@@ -6,6 +6,6 @@ use Rattle.wire.proofs.read_answers.entries.Goals as goal
 pub returns : goal.returns
 returns c =
     record {
-      encodes = entries_laid _ _ _ c.requires (omega (arith, false-eqb _ 0 c.if-is-empty.ensures)) c.bytes-at-bytes.ensures.value (entries_read _ c.if-not-are-certificates.ensures);
-      sound = c.if-not-are-certificates.ensures;
+      encodes = entries_laid _ _ _ c.requires (omega (arith, false-eqb _ 0 c.if-is_empty.ensures)) c.bytes_at-bytes.ensures.value (entries_read _ c.if-not-are_certificates.ensures);
+      sound = c.if-not-are_certificates.ensures;
     }

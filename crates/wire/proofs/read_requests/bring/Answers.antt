@@ -5,6 +5,6 @@ use Rattle.wire.proofs.read_requests.bring.Goals as goal
 pub returns : goal.returns
 returns c =
     record {
-      encodes = bring_laid _ _ _ _ _ c.requires (omega arith) c.bytes-at.ensures.value c.bytes-at-2.ensures.value c.in-Some.ensures c.in-Some-read-sct.ensures;
+      encodes = bring_laid _ _ _ _ _ c.requires (omega arith) c.bytes_at.ensures.value c.bytes_at-2.ensures.value c.in-Some.ensures c.in-Some-read_sct.ensures;
       sound = tt;
     }

@@ -5,6 +5,6 @@ use Rattle.wire.proofs.read_requests.challenge.Goals as goal
 pub returns : goal.returns
 returns c =
     record {
-      encodes = challenge_laid _ _ _ c.requires (omega arith) c.number-at.ensures c.nonce-at.ensures;
+      encodes = challenge_laid _ _ _ c.requires (omega arith) c.number_at.ensures c.nonce_at.ensures;
       sound = tt;
     }

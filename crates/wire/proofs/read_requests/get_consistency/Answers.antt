@@ -5,6 +5,6 @@ use Rattle.wire.proofs.read_requests.get_consistency.Goals as goal
 pub returns : goal.returns
 returns c =
     record {
-      encodes = consistency-asked _ _ _ c.requires (omega arith) c.number-at.ensures c.number-at-2.ensures;
+      encodes = consistency-asked _ _ _ c.requires (omega arith) c.number_at.ensures c.number_at-2.ensures;
       sound = tt;
     }

@@ -5,6 +5,6 @@ use Rattle.wire.proofs.read_requests.published.Goals as goal
 pub returns : goal.returns
 returns c =
     record {
-      encodes = published_laid _ _ c.requires (omega arith) c.number-at.ensures;
+      encodes = published_laid _ _ c.requires (omega arith) c.number_at.ensures;
       sound = tt;
     }

@@ -5,4 +5,4 @@ use Rattle.wire.proofs.read_signed.read_certificate.Goals as goal
 pub returns : goal.returns
 returns c =
     certificate_laid _ _ _ (omega arith) refl (omega arith) (omega arith) refl (search rules)
-    c.bytes-at.ensures.value c.key-at.ensures c.number-at.ensures c.number-at-2.ensures c.signature_at.ensures
+    c.bytes_at.ensures.value c.key_at.ensures c.number_at.ensures c.number_at-2.ensures c.signature_at.ensures

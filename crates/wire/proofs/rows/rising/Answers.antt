@@ -5,7 +5,7 @@ use Rattle.wire.proofs.rows.rising.Goals as goal
 pub returns-then-serial-before : goal.returns-then-serial-before
 returns-then-serial-before c =
     λ rises. let i = c.loop-i.i in
-    omega (arith, rising_at c.args.n c.args.s.now c.requires rises i (omega arith) (omega arith), c.loop-i.invariant.3 (omega arith), c.number-at-serial.ensures.value)
+    omega (arith, rising_at c.args.n c.args.s.now c.requires rises i (omega arith) (omega arith), c.loop-i.invariant.3 (omega arith), c.number_at-serial.ensures.value)
 
 pub returns : goal.returns
 returns c =

@@ -5,5 +5,5 @@ use Rattle.wire_write.proofs.put.put_number.Goals as goal
 
 pub returns : goal.returns
 returns c =
-    let bytes = c.to-be-bytes.ensures ∙ eight_bytes_of c.args.n in
-    record { grows = as_well bytes c.put.ensures.grows; len = omega (arith, ap length c.to-be-bytes.ensures) }
+    let bytes = c.to_be_bytes.ensures ∙ eight_bytes_of c.args.n in
+    record { grows = as_well bytes c.put.ensures.grows; len = omega (arith, ap length c.to_be_bytes.ensures) }

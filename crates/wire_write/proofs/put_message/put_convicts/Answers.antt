@@ -6,4 +6,4 @@ pub returns : goal.returns
 unfolding encode answer_bytes
 returns c =
     let row = digests_copied c.args.digests.bytes.now c.requires.ready.sound in
-    and_then c.put.ensures.grows (and_then c.put-head.ensures.grows (as_well row c.put-2.ensures.grows))
+    and_then c.put.ensures.grows (and_then c.put_head.ensures.grows (as_well row c.put-2.ensures.grows))

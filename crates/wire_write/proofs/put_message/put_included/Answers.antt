@@ -11,4 +11,4 @@ pub returns : goal.returns
 unfolding encode answer_bytes
 returns c =
     and_then c.put.ensures.grows
-    (and_then c.put-head.ensures.grows (and_then c.put-number.ensures.grows (as_well (path-copied c.args.path.bytes.now c.requires.ready.sound) (and_then c.put-2.ensures.grows c.put-3.ensures.grows))))
+    (and_then c.put_head.ensures.grows (and_then c.put_number.ensures.grows (as_well (path-copied c.args.path.bytes.now c.requires.ready.sound) (and_then c.put-2.ensures.grows c.put-3.ensures.grows))))

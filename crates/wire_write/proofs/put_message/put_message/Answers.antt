@@ -6,26 +6,26 @@ use Rattle.wire_write.proofs.Appended.{as_well}
 use Rattle.wire_write.proofs.Short.{list_ready}
 use Rattle.wire_write.proofs.put_message.put_message.Goals as goal
 
-pub put-list-requires : goal.put-list-requires
-put-list-requires c =
+pub put_list-requires : goal.put_list-requires
+put_list-requires c =
     let ready = list_ready _ _ c.in-RevocationList.is c.requires.ready in
     record { room = omega (arith, c.requires.room, ap size c.in-RevocationList.is); rising = ready.0; few = ready.1 }
 
 pub returns-in-Certificate : goal.returns-in-Certificate
 unfolding encode
-returns-in-Certificate c = as_well (ap (λ m. encode (message_of m)) (sym c.in-Certificate.is)) c.put-certificate.ensures.grows
+returns-in-Certificate c = as_well (ap (λ m. encode (message_of m)) (sym c.in-Certificate.is)) c.put_certificate.ensures.grows
 
 pub returns-in-Sct : goal.returns-in-Sct
 unfolding encode
-returns-in-Sct c = as_well (ap (λ m. encode (message_of m)) (sym c.in-Sct.is)) c.put-sct.ensures.grows
+returns-in-Sct c = as_well (ap (λ m. encode (message_of m)) (sym c.in-Sct.is)) c.put_sct.ensures.grows
 
 pub returns-in-TreeHead : goal.returns-in-TreeHead
 unfolding encode
-returns-in-TreeHead c = as_well (ap (λ m. encode (message_of m)) (sym c.in-TreeHead.is)) c.put-head.ensures.grows
+returns-in-TreeHead c = as_well (ap (λ m. encode (message_of m)) (sym c.in-TreeHead.is)) c.put_head.ensures.grows
 
 pub returns-in-RevocationList : goal.returns-in-RevocationList
 unfolding encode
-returns-in-RevocationList c = as_well (ap (λ m. encode (message_of m)) (sym c.in-RevocationList.is)) c.put-list.ensures.grows
+returns-in-RevocationList c = as_well (ap (λ m. encode (message_of m)) (sym c.in-RevocationList.is)) c.put_list.ensures.grows
 
 pub returns-in-GetHead : goal.returns-in-GetHead
 unfolding encode

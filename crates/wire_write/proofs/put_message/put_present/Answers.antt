@@ -4,4 +4,4 @@ use Rattle.wire_write.proofs.put_message.put_present.Goals as goal
 
 pub returns : goal.returns
 unfolding encode
-returns c = and_then c.put.ensures.grows (and_then c.put-certificate.ensures.grows (and_then c.put-sct.ensures.grows c.put-sct-2.ensures.grows))
+returns c = and_then c.put.ensures.grows (and_then c.put_certificate.ensures.grows (and_then c.put_sct.ensures.grows c.put_sct-2.ensures.grows))

@@ -4,4 +4,4 @@ use Rattle.wire_write.proofs.put_message.put_submit.Goals as goal
 
 pub returns : goal.returns
 unfolding encode
-returns c = and_then c.put.ensures.grows c.put-certificate.ensures.grows
+returns c = and_then c.put.ensures.grows c.put_certificate.ensures.grows

@@ -6,5 +6,5 @@ use Rattle.wire_write.proofs.put_signed.put_signed_list.Goals as goal
 
 pub returns : goal.returns
 returns c =
-    let whole = list_copied (list_of c.args.list.now) _ _ refl c.requires.rising (c.to-be-bytes.ensures ∙ two_bytes_of _) in
-    record { grows = as_well whole (and_then c.put.ensures.grows (and_then c.put-number.ensures.grows (and_then c.put-2.ensures.grows c.put-3.ensures.grows))); len = omega (arith, ap length c.to-be-bytes.ensures) }
+    let whole = list_copied (list_of c.args.list.now) _ _ refl c.requires.rising (c.to_be_bytes.ensures ∙ two_bytes_of _) in
+    record { grows = as_well whole (and_then c.put.ensures.grows (and_then c.put_number.ensures.grows (and_then c.put-2.ensures.grows c.put-3.ensures.grows))); len = omega (arith, ap length c.to_be_bytes.ensures) }

@@ -7,6 +7,6 @@ pub returns : goal.returns
 unfolding signed_revoke
 returns c =
     record {
-      items = (and_then c.put.ensures.grows c.put-number.ensures.grows).items ∙ ap (λ t. t ++ signed_revoke c.args.authority c.args.serial) c.reserve.ensures.items;
+      items = (and_then c.put.ensures.grows c.put_number.ensures.grows).items ∙ ap (λ t. t ++ signed_revoke c.args.authority c.args.serial) c.reserve.ensures.items;
       fits = tt;
     }

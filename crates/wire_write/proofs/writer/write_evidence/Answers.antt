@@ -19,8 +19,8 @@ returns c =
     let s = c.args.evidence.digests.bytes.now in
     let all = all_digests s c.args.evidence.head.count (omega arith) in
     let row = digests_copied s (omega arith) in
-    let grown = and_then c.put-sct.ensures.grows (and_then c.put-head.ensures.grows (as_well row c.put.ensures.grows)) in
+    let grown = and_then c.put_sct.ensures.grows (and_then c.put_head.ensures.grows (as_well row c.put.ensures.grows)) in
     record {
       items = grown.items ∙ ap (λ t. t ++ evidence_bytes (evidence_of c.args.evidence)) c.reserve.ensures.items;
-      fits = record { sct = c.sct-size.ensures.1; head = c.in-Some.ensures.1; count = all.0; digests = all.1 };
+      fits = record { sct = c.sct_size.ensures.1; head = c.in-Some.ensures.1; count = all.0; digests = all.1 };
     }

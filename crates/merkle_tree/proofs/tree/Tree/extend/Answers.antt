@@ -6,15 +6,15 @@ use Rattle.std.proofs.lemmas.Bool.{cond-true, cond-false}
 use Rattle.merkle_tree.proofs.Grows.{Grown, grown, together_again}
 use Rattle.merkle_tree.proofs.tree.Tree.extend.Goals as goal
 
-pub invariant-of-self-then-is-err : goal.invariant-of-self-then-is-err
-invariant-of-self-then-is-err c =
+pub invariant-of-self-then-is_err : goal.invariant-of-self-then-is_err
+invariant-of-self-then-is_err c =
     let self = c.args.self.now in
     let ms = vec_items self.mids in
     let row = c.args.row.now in
-    let longer : vec_items c.extend-from-slice.new.self ≡ ms ++ row = pushed row refl c.in-ok-extend-from-slice.was c.extend-from-slice.ensures.items in
+    let longer : vec_items c.extend_from_slice.new.self ≡ ms ++ row = pushed row refl c.in-ok-extend_from_slice.was c.extend_from_slice.ensures.items in
     let end : length ms ≡ c.len-before.result = omega (arith, c.len-before.ensures, self.paired, self.leaves.ok.0) in
     together_again (vec_items self.leaves) ms _ _
-    (c.extend-from-slice-2.ensures.items ∙ cond-false _ _ _ c.if-is-err.ensures.negation)
+    (c.extend_from_slice-2.ensures.items ∙ cond-false _ _ _ c.if-is_err.ensures.negation)
     (c.truncate.ensures.items ∙ (ap (take c.len-before.result) longer ∙ take_at ms row _ end))
     self.paired self.kept
 
@@ -24,10 +24,10 @@ fill-requires c =
     let ds = vec_items self.leaves in
     let ms = vec_items self.mids in
     let row = c.args.row.now in
-    let g : Grown c.deref.result.now c.deref-mut.result.now c.len-before.result =
+    let g : Grown c.deref.result.now c.deref_mut.result.now c.len-before.result =
     grown ds ms row _ _ _
-    (c.deref.ensures.value ∙ (c.extend-from-slice-2.ensures.items ∙ cond-true _ _ _ c.if-is-err.ensures.negation))
-    (c.deref-mut.ensures.value ∙ pushed row refl c.in-ok-extend-from-slice.was c.extend-from-slice.ensures.items)
+    (c.deref.ensures.value ∙ (c.extend_from_slice-2.ensures.items ∙ cond-true _ _ _ c.if-is_err.ensures.negation))
+    (c.deref_mut.ensures.value ∙ pushed row refl c.in-ok-extend_from_slice.was c.extend_from_slice.ensures.items)
     self.paired (sym self.leaves.ok.0 ∙ sym c.len-before.ensures) self.kept in
     record { within = g.within; paired = g.paired; kept = g.kept }
 
@@ -35,5 +35,5 @@ pub invariant-of-self-2 : goal.invariant-of-self-2
 invariant-of-self-2 c =
     together_again c.deref.result.now c.fill.new.mids _ _
     (sym c.deref.ensures.value)
-    (with_items_is c.extend-from-slice.new.self c.fill.new.mids (c.fill.auto.mids ∙ c.deref-mut.ensures.len))
+    (with_items_is c.extend_from_slice.new.self c.fill.new.mids (c.fill.auto.mids ∙ c.deref_mut.ensures.len))
     c.fill.ensures.paired c.fill.ensures.kept

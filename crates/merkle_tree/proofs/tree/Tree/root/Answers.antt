@@ -6,5 +6,5 @@ use Rattle.merkle_tree.proofs.tree.Tree.root.Goals as goal
 
 pub returns : goal.returns
 returns c =
-    c.root-over.ensures
+    c.root_over.ensures
     ∙ ap root_of (take_all c.len.result c.deref.result.now (omega (arith, c.len.ensures, c.deref.ensures.len)) ∙ c.deref.ensures.value)

@@ -6,4 +6,4 @@ pub returns-then-i-self : goal.returns-then-i-self
 returns-then-i-self c = omega (arith, numbers_long c.args.self.now.bytes.now)
 
 pub returns : goal.returns
-returns c = let s = c.args.self.now.bytes.now in (omega (arith, numbers_long s), c.number-at.ensures.value ∙ sym (numbers_at s c.args.i (omega arith)))
+returns c = let s = c.args.self.now.bytes.now in (omega (arith, numbers_long s), c.number_at.ensures.value ∙ sym (numbers_at s c.args.i (omega arith)))
