@@ -103,9 +103,9 @@ module _ (K : Coding) (P : MonitorView → Type 0) (asks : (l : ℕ) (u : Monito
   monitor_step ticks s (MonitorEvent.Asks l) u p = asks l u p
   monitor_step ticks s (MonitorEvent.Fetches f) u p = fetched_step f u p
 
-time : (K : Coding) (s : Settings) (v w : MonitorView) → MonitorRun K s v w → (v.now ≤ w.now) × (w.ghost_name ≡ v.ghost_name)
-time K s v w r = kept (λ u. (v.now ≤ u.now) × (u.ghost_name ≡ v.ghost_name))
-    (monitor_step K (λ u. (v.now ≤ u.now) × (u.ghost_name ≡ v.ghost_name)) (λ l u p. p) (λ f u m p. p) (λ t u l p. (le_trans p.0 l, p.1)) s) r (le_refl _, refl)
+time : (K : Coding) (s : Settings) (v w : MonitorView) → MonitorRun K s v w → (v.now ≤ w.now) × (w.name ≡ v.name)
+time K s v w r = kept (λ u. (v.now ≤ u.now) × (u.name ≡ v.name))
+    (monitor_step K (λ u. (v.now ≤ u.now) × (u.name ≡ v.name)) (λ l u p. p) (λ f u m p. p) (λ t u l p. (le_trans p.0 l, p.1)) s) r (le_refl _, refl)
 
 -- what it looked through
 
@@ -134,8 +134,8 @@ takes_looked K name f x m h = record {
 looked_through : (K : Coding) (s : Settings) (name : Bytes) (v : MonitorView) → MonitorRun K s (new_monitor name) v → (log : ℕ) → LookedThrough K v.name log (v.logs log)
 looked_through K s name v r = kept (λ u. (log : ℕ) → LookedThrough K u.name log (u.logs log))
     (monitor_step K (λ u. (log : ℕ) → LookedThrough K u.name log (u.logs log))
-    (λ l u p log. update_both l (asked_at u.now (u.logs l)) u.logs log (LookedThrough K u.ghost_name log)
-    (λ q. subst (λ (i : ℕ). LookedThrough K u.ghost_name i (asked_at u.now (u.logs l))) (sym q) (record { entries = (p l).entries; digests = (p l).digests; found = (p l).found; head = (p l).head })) (λ q. p log))
+    (λ l u p log. update_both l (asked_at u.now (u.logs l)) u.logs log (LookedThrough K u.name log)
+    (λ q. subst (λ (i : ℕ). LookedThrough K u.name i (asked_at u.now (u.logs l))) (sym q) (record { entries = (p l).entries; digests = (p l).digests; found = (p l).found; head = (p l).head })) (λ q. p log))
     (λ f u m p log. update_both f.head.log (takes K u.name (u.logs f.head.log) f) u.logs log (LookedThrough K u.name log)
     (λ q. subst (λ (i : ℕ). LookedThrough K u.name i (takes K u.name (u.logs f.head.log) f)) (sym q) (takes_looked K u.name f (u.logs f.head.log) m (p f.head.log))) (λ q. p log))
     (λ t u l p. p) s) r (λ log. record { entries = []; digests = refl; found = none_with_name name; head = refl })

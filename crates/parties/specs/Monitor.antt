@@ -31,7 +31,7 @@ abbrev pub new_monitor : Bytes → MonitorView
 new_monitor name = record { name = name; now = 0; logs = λ l. nothing_seen }
 
 abbrev pub with_seen : ℕ → Seen → MonitorView → MonitorView
-with_seen l x v = record { name = v.ghost_name; now = v.now; logs = update l x v.logs }
+with_seen l x v = record { name = v.name; now = v.now; logs = update l x v.logs }
 
 -- the tick and the root of the last head; without one, those of no entries
 abbrev pub tick_of : Option SignedHead → ℕ
@@ -158,7 +158,7 @@ on_bring K s c p came v = brought_by K s p came v (first_fault (faults_of_brough
 -- Time
 
 abbrev pub on_tick : ℕ → MonitorView → MonitorView
-on_tick t v = cond (nat_lt t v.now) v (record { name = v.ghost_name; now = t; logs = v.logs })
+on_tick t v = cond (nat_lt t v.now) v (record { name = v.name; now = t; logs = v.logs })
 
 -- a log that it has never asked, or not for a merge delay
 abbrev pub must_ask : Settings → ℕ → Option ℕ → Bool

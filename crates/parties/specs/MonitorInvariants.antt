@@ -41,7 +41,7 @@ abbrev pub Told : MonitorView → MonitorView → List Certificate → Type 0
 Told v w tells = (log : ℕ) (c : Certificate) → c ∈ (w.logs log).found → (c ∈ (v.logs log).found) ⊎ (c ∈ tells)
 
 pub record MonitorInvariants (K : Coding) (s : Settings) : Type 0 where
-  pub time : (v w : MonitorView) → MonitorRun K s v w → (v.now ≤ w.now) × (w.ghost_name ≡ v.ghost_name)
+  pub time : (v w : MonitorView) → MonitorRun K s v w → (v.now ≤ w.now) × (w.name ≡ v.name)
   pub looked_through : (name : Bytes) (v : MonitorView) → MonitorRun K s (new_monitor name) v → (log : ℕ) → LookedThrough K name log (v.logs log)
   pub seen_grows : (v w : MonitorView) → MonitorRun K s v w → (log : ℕ) → Grows (v.logs log) (w.logs log)
   pub found_is_told : (f : Fetched) (v : MonitorView) → Told v (on_fetched K f v).view (on_fetched K f v).tells

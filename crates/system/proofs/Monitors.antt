@@ -276,7 +276,7 @@ module _ (S : Setup) (sound : Sound S) (s : State) (n : ℕ) (c : Certificate) (
   -- that it asked changes nothing of what it has seen
   asked_stands : Stands S (with_monitor n asked s) w
   asked_stands = let st' = as_with_monitor S s n st in with_monitor_lem S s n it st' asked (λ l. update_one p.log _ it.logs l (λ y. SeenStands S s.hashed l it.name y (w.seen n l))
-      (λ q. subst (λ (i : ℕ). SeenStands S s.hashed l it.ghost_name (record { head = (it.logs i).head; digests = (it.logs i).digests; found = (it.logs i).found; asked = Some it.now }) (w.seen n l)) q
+      (λ q. subst (λ (i : ℕ). SeenStands S s.hashed l it.name (record { head = (it.logs i).head; digests = (it.logs i).digests; found = (it.logs i).found; asked = Some it.now }) (w.seen n l)) q
       (same_seen (own_monitor S s n it st' l))) (λ ne. own_monitor S s n it st' l))
     where
       same_seen : {l : ℕ} {name : Bytes} {y : Seen} {h : TreeHead} {o : Option ℕ} → SeenStands S s.hashed l name y h →
