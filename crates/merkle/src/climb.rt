@@ -16,7 +16,7 @@ pub(crate) trait Rise: Copy {
 
 // `turns` has a bit for each level, the lowest level's first: 1 if the way down went right. The digests come from the root down.
 pub(crate) fn climb<T: Rise>(start: T, turns: u64, beside: &[Digest]) -> T
-    ensures { result ≡ climbed raised turns (reverse beside.now) start }
+    ensures { result ≡ climbed T.raised turns (reverse beside.now) start }
 {
     let mut risen = start;
     let mut ahead = turns;

@@ -4,8 +4,8 @@ use Rattle.merkle.specs.Digests.{node_of}
 use Rattle.merkle.specs.Consistency.{as_roots}
 use Rattle.merkle.proofs.consistency.roots_from_consistency.Goals as goal
 
-pub returns-in-err-turns : goal.returns-in-err-turns
-returns-in-err-turns c =
+pub returns-in_err-turns : goal.returns-in_err-turns
+returns-in_err-turns c =
     let old = c.args.earlier.now in
     let proof = c.args.proof.now in
     let last : c.args.from ≡ c.args.from - 1 + 1 = omega arith in

@@ -2,11 +2,11 @@ use Rattle.std.proofs.Common.{arith}
 use Rattle.merkle.proofs.Sizes.{room_below, left_small, turn_noted, turn_fits}
 use Rattle.merkle.proofs.way.Way.to_left.Goals as goal
 
-pub overflow-mul-result : goal.overflow-mul-result
-overflow-mul-result c = omega (arith, turn_fits c.args.self c.requires.many)
+pub overflow_mul-result : goal.overflow_mul-result
+overflow_mul-result c = omega (arith, turn_fits c.args.self c.requires.many)
 
-pub invariant-of-result : goal.invariant-of-result
-invariant-of-result c =
+pub invariant_of-result : goal.invariant_of-result
+invariant_of-result c =
     let w = c.args.self in
     let many = c.requires.many in (
       c.requires.here,
