@@ -10,4 +10,4 @@ returns-in_err-turns c =
     let proof = c.args.proof.now in
     let last : c.args.from ≡ c.args.from - 1 + 1 = omega arith in
     ap as_roots c.from_residual.ensures
-    ∙ sym (ap (λ m. roots_from_consistency node_of m c.args.to true old proof) last ∙ c.in-err-turns.ensures old proof refl)
+    ∙ sym (ap (λ m. roots_from_consistency node_of m c.args.to true old proof) last ∙ c.in_err-turns.ensures old proof refl)

@@ -8,6 +8,6 @@ returns-then-count-lt2 c = record { is = left_of_few c.args.count c.if-count-lt2
 pub returns-else-count-lt2 : goal.returns-else-count-lt2
 returns-else-count-lt2 c =
     record {
-      is = left_of_log c.args.count c.ilog2.result c.if-count-lt2.false c.ilog2.ensures.power_le c.ilog2.ensures.next-power-gt;
+      is = left_of_log c.args.count c.ilog2.result c.if-count-lt2.false c.ilog2.ensures.power_le c.ilog2.ensures.next_power_gt;
       bound = c.ilog2.ensures.bound;
     }

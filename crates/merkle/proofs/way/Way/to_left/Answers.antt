@@ -8,13 +8,9 @@ overflow_mul-result c = omega (arith, turn_fits c.args.self c.requires.many)
 pub invariant_of-result : goal.invariant_of-result
 invariant_of-result c =
     let w = c.args.self in
-    let many = c.requires.many in (
-      c.requires.here,
-      (
-        omega (arith, room_below w many),
-        (
-          omega (arith, left_small w many, c.requires.size),
-          (omega (arith, turn_noted w many), tt),
-        ),
-      ),
-    )
+    let many = c.requires.many in record {
+      inside = c.requires.here;
+      deep = omega (arith, room_below w many);
+      small = omega (arith, left_small w many, c.requires.size);
+      noted = omega (arith, turn_noted w many);
+    }

@@ -11,13 +11,9 @@ overflow_add-result-2 c = omega (arith, turn_fits c.args.self c.requires.many)
 pub invariant_of-result : goal.invariant_of-result
 invariant_of-result c =
     let w = c.args.self in
-    let many = c.requires.many in (
-      omega (arith, w.inside, c.requires.here),
-      (
-        omega (arith, room_below w many),
-        (
-          omega (arith, right_small w many, c.requires.size),
-          (turn_noted w many, tt),
-        ),
-      ),
-    )
+    let many = c.requires.many in record {
+      inside = omega (arith, w.inside, c.requires.here);
+      deep = omega (arith, room_below w many);
+      small = omega (arith, right_small w many, c.requires.size);
+      noted = turn_noted w many;
+    }
