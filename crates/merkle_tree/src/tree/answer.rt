@@ -62,7 +62,7 @@ impl Tree {
             return Err(TreeError::NotThere);
         }
         path(
-            self.leaves.allocator(),
+            *self.leaves.allocator(),
             &self.leaves,
             &self.mids,
             place as usize,
@@ -84,7 +84,7 @@ impl Tree {
             return Err(TreeError::NotThere);
         }
         growth(
-            self.leaves.allocator(),
+            *self.leaves.allocator(),
             &self.leaves,
             &self.mids,
             from as usize,

@@ -10,8 +10,8 @@ loop-digest-init c = c.new_text.ensures.bytes
 pub loop-digest-preserved : goal.loop-digest-preserved
 loop-digest-preserved c =
     spaced_more c.args.digests.now c.loop-digest.digest-index _ _ _ _ _ _ c.loop-digest-test.true c.loop-digest.invariant
-    c.in-ok-push.ensures.bytes (c.push.ensures.ascii (omega arith))
-    c.in-ok-push_str.ensures.bytes (c.as_str.ensures.value ∙ c.in-ok-hex.ensures)
+    c.in_ok-push.ensures.bytes (c.push.ensures.ascii (omega arith))
+    c.in_ok-push_str.ensures.bytes (c.as_str.ensures.value ∙ c.in_ok-hex.ensures)
 
 pub returns : goal.returns
 returns c =

@@ -4,4 +4,4 @@ use Rattle.harbour.proofs.wording.quoted.Goals as goal
 
 pub returns : goal.returns
 returns c =
-    worded c.format.result _ _ (ap (λ t. c.args.before.now ++ (t ++ c.args.after.now)) c.in-ok-word.ensures) c.format.ensures.ok
+    worded c.format.result _ _ (ap (λ t. c.args.before.now ++ (t ++ c.args.after.now)) c.in_ok-word.ensures) c.format.ensures.ok

@@ -14,7 +14,7 @@ down-preserved c =
     let w = c.down.invariant.0 in
     let step = c.down-step.result in (
       (way_down step w (omega arith) c.down-step.ensures).0,
-      noted (vec_items c.down.beside) c.in-ok-push.ensures.items (path_down step w (omega arith) c.down-step.ensures) c.down.invariant.1,
+      noted (vec_items c.down.beside) c.in_ok-push.ensures.items (path_down step w (omega arith) c.down-step.ensures) c.down.invariant.1,
     )
 
 pub returns : goal.returns

@@ -5,11 +5,11 @@ use Rattle.script.proofs.hex.to_hex.Goals as goal
 
 pub loop-b-init : goal.loop-b-init
 unfolding hex_of
-loop-b-init c = c.new_text.ensures.bytes
+loop-b-init c = c.new-text.ensures.bytes
 
 pub loop-b-preserved : goal.loop-b-preserved
 loop-b-preserved c =
-    hex_more c.args.digest.now.bytes c.loop-b.b-index _ _ (omega arith) c.loop-b.invariant c.in-ok-push_hex.ensures
+    hex_more c.args.digest.now.bytes c.loop-b.b-index _ _ (omega arith) c.loop-b.invariant c.in_ok-push_hex.ensures
 
 pub returns : goal.returns
 returns c =

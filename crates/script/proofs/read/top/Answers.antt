@@ -8,8 +8,8 @@ returns-then-is_empty c = ap (λ ws. codes "top" ∷ ws) (no_words c.args.args.n
 pub returns-then-args-ne1 : goal.returns-then-args-ne1
 returns-then-args-ne1 c = (refl, not_at_most c.args.args.now 1 (omega (arith, false-eqb _ 0 c.if-is_empty.ensures)))
 
-pub returns-in-default : goal.returns-in-default
-returns-in-default c = (first_stands c.args.args.now _ (omega arith), c.in-default.ensures)
+pub returns-in_default : goal.returns-in_default
+returns-in_default c = (first_stands c.args.args.now _ (omega arith), c.in_default.ensures)
 
 pub returns : goal.returns
 returns c = (_, ap (λ ws. codes "top" ∷ ws) (one_word c.args.args.now _ c.if-args-ne1.false), c.in-Some.ensures)

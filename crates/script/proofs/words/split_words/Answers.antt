@@ -9,10 +9,10 @@ loop-rest-init c = (
   c.skip_blanks-rest.ensures.first,
 )
 
-some_left : (c : goal.After-skip-blanks-rest-in-loop-rest) → 0 < length c.loop-rest.rest.now
+some_left : (c : goal.After-skip_blanks-rest-in-loop-rest) → 0 < length c.loop-rest.rest.now
 some_left c = omega (arith, false-eqb _ 0 c.loop-rest-test.ensures)
 
-word : (c : goal.After-skip-blanks-rest-in-loop-rest) → (0 < c.run.result) × (words c.loop-rest.rest.now ≡ take c.run.result c.loop-rest.rest.now ∷ words (drop c.run.result c.loop-rest.rest.now))
+word : (c : goal.After-skip_blanks-rest-in-loop-rest) → (0 < c.run.result) × (words c.loop-rest.rest.now ≡ take c.run.result c.loop-rest.rest.now ∷ words (drop c.run.result c.loop-rest.rest.now))
 word c =
     let ran = c.run.ensures in
     first_word _ _ (some_left c) (c.loop-rest.invariant.1 (some_left c)) ran.within ran.all ran.stops
@@ -21,7 +21,7 @@ pub loop-rest-preserved : goal.loop-rest-preserved
 loop-rest-preserved c =
     let next = c.skip_blanks-rest-in-loop-rest.ensures in
     let split = c.split_at.ensures in
-    (one_word_more _ _ _ _ _ _ _ _ c.in-ok-push.ensures.items split.front split.back next.same (word c).1 c.loop-rest.invariant.0, next.first)
+    (one_word_more _ _ _ _ _ _ _ _ c.in_ok-push.ensures.items split.front split.back next.same (word c).1 c.loop-rest.invariant.0, next.first)
 
 pub loop-rest-smaller : goal.loop-rest-smaller
 loop-rest-smaller c = omega (arith, (word c).0, c.split_at.ensures.back_len, c.skip_blanks-rest-in-loop-rest.ensures.shorter, c.run.ensures.within)

@@ -5,7 +5,7 @@ use Rattle.show.proofs.Texts.{hex_joined, one_more}
 use Rattle.show.proofs.fields.hex.Goals as goal
 
 pub loop-b-preserved : goal.loop-b-preserved
-loop-b-preserved c = one_more byte_hex c.args.bytes.now c.loop-b.b-index 0 _ _ _ c.loop-b-test.true c.loop-b.invariant refl c.in-ok-push_hex.ensures
+loop-b-preserved c = one_more byte_hex c.args.bytes.now c.loop-b.b-index 0 _ _ _ c.loop-b-test.true c.loop-b.invariant refl c.in_ok-push_hex.ensures
 
 pub returns : goal.returns
 returns c = c.loop-b.invariant ∙ ap (flat_map byte_hex) (take_all _ _ c.loop-b-test.false) ∙ sym (hex_joined c.args.bytes.now)

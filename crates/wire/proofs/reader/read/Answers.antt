@@ -4,5 +4,5 @@ use Rattle.wire_theory.specs.Shapes.{Shaped}
 use Rattle.wire_theory.proofs.Shaped.{not_shaped, shaped}
 use Rattle.wire.proofs.reader.read.Goals as goal
 
-pub returns-in-default : goal.returns-in-default
-returns-in-default c = (refl, not_shaped encode Fits Shaped shaped _ c.in-default.ensures)
+pub returns-in_default : goal.returns-in_default
+returns-in_default c = (refl, not_shaped encode Fits Shaped shaped _ c.in_default.ensures)

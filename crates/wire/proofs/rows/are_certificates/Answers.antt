@@ -2,8 +2,8 @@ use Rattle.std.proofs.Common.{arith, true-eqb, false-eqb}
 use Rattle.wire_theory.proofs.Follows.{behind_first, entries_begin, fewer_behind, no_entries}
 use Rattle.wire.proofs.rows.are_certificates.Goals as goal
 
-pub returns-in-default : goal.returns-in-default
-returns-in-default c = λ all. c.in-default.ensures (entries_begin _ (omega (arith, false-eqb _ 0 c.loop-rest-test.ensures)) (c.loop-rest.invariant.0 all))
+pub returns-in_default : goal.returns-in_default
+returns-in_default c = λ all. c.in_default.ensures (entries_begin _ (omega (arith, false-eqb _ 0 c.loop-rest-test.ensures)) (c.loop-rest.invariant.0 all))
 
 pub loop-rest-smaller : goal.loop-rest-smaller
 loop-rest-smaller c = let h = c.in-Some.ensures in fewer_behind _ _ _ h.1 h.0

@@ -4,8 +4,8 @@ use Rattle.wire_theory.proofs.Rows.{rows_long}
 use Rattle.wire_write.proofs.Appended.{and_then, as_well, path-copied}
 use Rattle.wire_write.proofs.put_message.put_included.Goals as goal
 
-pub overflow-cast-bytes : goal.overflow-cast-bytes
-overflow-cast-bytes c = let count = c.requires.ready.fits.2.0 in omega (arith, count, rows_long 32 c.args.path.bytes.now)
+pub overflow_cast-bytes : goal.overflow_cast-bytes
+overflow_cast-bytes c = let count = c.requires.ready.fits.2.0 in omega (arith, count, rows_long 32 c.args.path.bytes.now)
 
 pub returns : goal.returns
 unfolding encode answer_bytes

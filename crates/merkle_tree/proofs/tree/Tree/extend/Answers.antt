@@ -6,12 +6,12 @@ use Rattle.std.proofs.lemmas.Bool.{cond-true, cond-false}
 use Rattle.merkle_tree.proofs.Grows.{Grown, grown, together_again}
 use Rattle.merkle_tree.proofs.tree.Tree.extend.Goals as goal
 
-pub invariant-of-self-then-is_err : goal.invariant-of-self-then-is_err
-invariant-of-self-then-is_err c =
+pub invariant_of-self-then-is_err : goal.invariant_of-self-then-is_err
+invariant_of-self-then-is_err c =
     let self = c.args.self.now in
     let ms = vec_items self.mids in
     let row = c.args.row.now in
-    let longer : vec_items c.extend_from_slice.new.self ≡ ms ++ row = pushed row refl c.in-ok-extend_from_slice.was c.extend_from_slice.ensures.items in
+    let longer : vec_items c.extend_from_slice.new.self ≡ ms ++ row = pushed row refl c.in_ok-extend_from_slice.was c.extend_from_slice.ensures.items in
     let end : length ms ≡ c.len-before.result = omega (arith, c.len-before.ensures, self.paired, self.leaves.ok.0) in
     together_again (vec_items self.leaves) ms _ _
     (c.extend_from_slice-2.ensures.items ∙ cond-false _ _ _ c.if-is_err.ensures.negation)
@@ -27,12 +27,12 @@ fill-requires c =
     let g : Grown c.deref.result.now c.deref_mut.result.now c.len-before.result =
     grown ds ms row _ _ _
     (c.deref.ensures.value ∙ (c.extend_from_slice-2.ensures.items ∙ cond-true _ _ _ c.if-is_err.ensures.negation))
-    (c.deref_mut.ensures.value ∙ pushed row refl c.in-ok-extend_from_slice.was c.extend_from_slice.ensures.items)
+    (c.deref_mut.ensures.value ∙ pushed row refl c.in_ok-extend_from_slice.was c.extend_from_slice.ensures.items)
     self.paired (sym self.leaves.ok.0 ∙ sym c.len-before.ensures) self.kept in
     record { within = g.within; paired = g.paired; kept = g.kept }
 
-pub invariant-of-self-2 : goal.invariant-of-self-2
-invariant-of-self-2 c =
+pub invariant_of-self-2 : goal.invariant_of-self-2
+invariant_of-self-2 c =
     together_again c.deref.result.now c.fill.new.mids _ _
     (sym c.deref.ensures.value)
     (with_items_is c.extend_from_slice.new.self c.fill.new.mids (c.fill.auto.mids ∙ c.deref_mut.ensures.len))

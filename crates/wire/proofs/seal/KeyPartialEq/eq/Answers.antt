@@ -1,12 +1,13 @@
 -- Two are the same exactly if their bytes are.
 use Rattle.std.proofs.Common.{◌≡◌, Decides, ap}
+use Rattle.std.proofs.lemmas.Bool.Decides.{Decides-eqb}
 use Rattle.std.proofs.lemmas.Slice.Eq.{slice_eq-Decides}
 use Rattle.wire.specs.declared.seal.Key.{Key}
 use Rattle.wire.proofs.seal.KeyPartialEq.eq.Goals as goal
 
-pub returns : goal.returns
-returns c =
+pub returns-clause-decides : goal.returns-clause-decides
+returns-clause-decides c =
     let a = c.args.self.now in
     let b = c.args.other.now in
-    let bytes : Decides c.eq.result (a.bytes ≡ b.bytes) = slice_eq-Decides _ _ _ c.eq.ensures in
+    let bytes : Decides c.eq.result (a.bytes ≡ b.bytes) = slice_eq-Decides Decides-eqb _ _ _ c.eq.ensures in
     (λ e i. record { bytes = bytes.0 e i }, λ e. bytes.1 (ap (λ (d : Key). d.bytes) e))

@@ -5,7 +5,7 @@ use Rattle.wire_write.proofs.owned.OwnedList.from_borrowed.Goals as goal
 
 pub loop-i-preserved : goal.loop-i-preserved
 loop-i-preserved c =
-    one_serial_more (serials_of c.args.list.now.serials) _ _ c.loop-i.i _ (omega (arith, c.in-Some.ensures.0)) c.loop-i.invariant c.in-Some.ensures.1 c.in-ok-push.ensures.items
+    one_serial_more (serials_of c.args.list.now.serials) _ _ c.loop-i.i _ (omega (arith, c.in-Some.ensures.0)) c.loop-i.invariant c.in-Some.ensures.1 c.in_ok-push.ensures.items
 
 pub returns : goal.returns
 returns c =
