@@ -39,7 +39,7 @@ grown ds ms row xs ys count e f h c kept =
 
 -- a tree's two rows belong together
 abbrev pub Together : List Digest → List Digest → Type 0
-Together ds ms = (length ms ≡ length ds) × (Kept ds ms × Unit {0})
+Together ds ms = (length ms ≡ length ds) × Kept ds ms
 
 pub together_again : (ds ms xs ys : List Digest) → xs ≡ ds → ys ≡ ms → length ms ≡ length ds → Kept ds ms → Together xs ys
-together_again ds ms xs ys e f h kept = rw (e, f) (h, (kept, tt))
+together_again ds ms xs ys e f h kept = rw (e, f) (h, kept)

@@ -8,5 +8,5 @@ pub returns : goal.returns
 returns c =
     let value =
     left_by_log (c.args.size + 1) c.ilog2.result (omega arith)
-    (omega (arith, c.ilog2.ensures.power_le)) (omega (arith, c.ilog2.ensures.next-power-gt)) c.ilog2.ensures.bound in
+    (omega (arith, c.ilog2.ensures.power_le)) (omega (arith, c.ilog2.ensures.next_power_gt)) c.ilog2.ensures.bound in
     record { value = value; bounds = first_bounds c.args.size _ c.requires value }

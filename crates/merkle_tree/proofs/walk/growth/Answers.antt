@@ -2,7 +2,7 @@
 use Rattle.std.proofs.Common.{vec_items, refl, ap, ◌∙◌, arith}
 use Rattle.merkle_tree.proofs.Walks.{way_begins, growth_begins, way_down, growth_down, growth_ends_whole, growth_ends_part, noted, all_noted}
 use Rattle.merkle_tree.proofs.walk.growth.Goals as goal
-use Rattle.merkle_tree.proofs.walk.growth.Goals.{then-from-gt0+in_ok-push-2, Else-from-gt0}
+use Rattle.merkle_tree.proofs.walk.growth.Goals.{then-from-gt0+in_ok-push-2, else-from-gt0}
 
 pub down-init : goal.down-init
 down-init c = (way_begins (omega arith) c.requires.within, growth_begins c.args.leaves.now c.args.count c.args.old c.new-beside.ensures.items)
@@ -26,5 +26,5 @@ returns c =
           ap vec_items w.beside-is
           ∙ all_noted refl (noted (vec_items c.down.beside) w.in_ok-push-2.ensures.items
           (growth_ends_part part c.if-from-size.true w.if-from-gt0.true w.subtree.ensures) c.down.invariant.1)
-      | Else-from-gt0 w ↦ ap vec_items w.beside-is ∙ all_noted (growth_ends_whole part c.if-from-size.true w.if-from-gt0.false) c.down.invariant.1
+      | else-from-gt0 w ↦ ap vec_items w.beside-is ∙ all_noted (growth_ends_whole part c.if-from-size.true w.if-from-gt0.false) c.down.invariant.1
     ]

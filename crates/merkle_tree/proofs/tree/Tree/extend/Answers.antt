@@ -1,9 +1,10 @@
 -- Both rows are as they were, or both have grown and are filled.
 use Rattle.std.proofs.Common.{◌≡◌, ◌++◌, length, take, vec_items, sym, refl, ap, ◌∙◌, arith}
+use Rattle.std.specs.Vec.{with_items}
 use Rattle.std.proofs.lemmas.List.{take_at, with_items_is}
 use Rattle.std.proofs.lemmas.Slice.{pushed}
 use Rattle.std.proofs.lemmas.Bool.{cond-true, cond-false}
-use Rattle.merkle_tree.proofs.Grows.{Grown, grown, together_again}
+use Rattle.merkle_tree.proofs.Grows.{Grown, grown, Together, together_again}
 use Rattle.merkle_tree.proofs.tree.Tree.extend.Goals as goal
 
 pub invariant_of-self-then-is_err : goal.invariant_of-self-then-is_err
@@ -13,10 +14,12 @@ invariant_of-self-then-is_err c =
     let row = c.args.row.now in
     let longer : vec_items c.extend_from_slice.new.self ≡ ms ++ row = pushed row refl c.in_ok-extend_from_slice.was c.extend_from_slice.ensures.items in
     let end : length ms ≡ c.len-before.result = omega (arith, c.len-before.ensures, self.paired, self.leaves.ok.0) in
+    let both : Together (vec_items c.extend_from_slice-2.new.self) (vec_items c.truncate.new.self) =
     together_again (vec_items self.leaves) ms _ _
     (c.extend_from_slice-2.ensures.items ∙ cond-false _ _ _ c.if-is_err.ensures.negation)
     (c.truncate.ensures.items ∙ (ap (take c.len-before.result) longer ∙ take_at ms row _ end))
-    self.paired self.kept
+    self.paired self.kept in
+    record { paired = both.0; kept = both.1 }
 
 pub fill-requires : goal.fill-requires
 fill-requires c =
@@ -33,7 +36,9 @@ fill-requires c =
 
 pub invariant_of-self-2 : goal.invariant_of-self-2
 invariant_of-self-2 c =
+    let both : Together (vec_items c.extend_from_slice-2.new.self) (vec_items (with_items c.extend_from_slice.new.self c.fill.new.mids)) =
     together_again c.deref.result.now c.fill.new.mids _ _
     (sym c.deref.ensures.value)
     (with_items_is c.extend_from_slice.new.self c.fill.new.mids (c.fill.auto.mids ∙ c.deref_mut.ensures.len))
-    c.fill.ensures.paired c.fill.ensures.kept
+    c.fill.ensures.paired c.fill.ensures.kept in
+    record { paired = both.0; kept = both.1 }
