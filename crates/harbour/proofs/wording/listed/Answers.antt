@@ -5,7 +5,7 @@ use Rattle.harbour.proofs.wording.listed.Goals as goal
 
 pub loop-digest-init : goal.loop-digest-init
 unfolding spaced
-loop-digest-init c = c.new_text.ensures.bytes
+loop-digest-init c = c.new-text.ensures.bytes
 
 pub loop-digest-preserved : goal.loop-digest-preserved
 loop-digest-preserved c =

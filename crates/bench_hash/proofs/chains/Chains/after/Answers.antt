@@ -6,4 +6,4 @@ pub loop-done-preserved : goal.loop-done-preserved
 loop-done-preserved c =
     c.step-chains.ensures
     ∙ ap stepped c.loop-done.invariant
-    ∙ ap (λ n. times n c.args.self) (sym (add-one c.loop-done.-done))
+    ∙ ap (λ n. times n c.args.self) (sym (add-one c.loop-done._done))
