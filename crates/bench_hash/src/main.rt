@@ -1,4 +1,6 @@
 // Measures SHA-256: of standard input, and of nodes of a tree, one at a time and four at once.
+#![tactic(auto)]
+
 mod chains;
 mod steps;
 

@@ -1,4 +1,6 @@
 // What the programs that are measured share: how they tell times and draw numbers.
+#![tactic(auto)]
+
 mod draws;
 
 pub use draws::Draws;

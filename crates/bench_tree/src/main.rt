@@ -1,4 +1,6 @@
 // Measures a tree: how long it takes to grow, and to make and check proofs of inclusion and of consistency.
+#![tactic(auto)]
+
 mod leaf;
 mod tally;
 mod work;

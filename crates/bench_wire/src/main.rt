@@ -1,4 +1,6 @@
 // Measures how fast certificates and revocation lists are read and written.
+#![tactic(auto)]
+
 mod work;
 
 use crate::work::{certificate, read_all, revocation_list, write_all};

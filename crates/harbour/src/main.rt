@@ -1,4 +1,6 @@
 // Plays a script from standard input, line by line, and prints an answer to each; or shows a message in words.
+#![tactic(auto)]
+
 mod help;
 mod wording;
 

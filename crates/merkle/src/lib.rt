@@ -1,5 +1,7 @@
 // The Merkle tree of RFC 9162 with SHA-256: the digests of entries and of nodes, the root of a row of leaf digests, and the
 // roots that inclusion and consistency proofs lead to.
+#![tactic(auto)]
+
 mod climb;
 mod consistency;
 mod digest;

@@ -1,4 +1,6 @@
 // What is proved of the Merkle tree over any hash, said of the code's own digests, which are SHA-256's: each function's contract names one theorem.
+#![tactic(auto)]
+
 ghost use Rattle.merkle_binding.specs.Bytes.{BytesCarry, Sha256Long};
 ghost use Rattle.merkle_binding.specs.Entries.{BytesAgree, ConsistencyTellsEntries, PathTellsEntry, RootTellsEntries, RowAgrees};
 ghost use Rattle.merkle_binding.specs.Rows.{ConsistencyFromRow, ConsistencyTellsRow, PathFromLeaf, PathTellsLeaf, RootTellsRow};

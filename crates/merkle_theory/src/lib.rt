@@ -1,4 +1,6 @@
 // The Merkle tree's definition, and what is proved of it: each function's contract names one theorem.
+#![tactic(auto)]
+
 ghost use Rattle.merkle_theory.specs.Bytes.{Bytes};
 ghost use Rattle.merkle_theory.specs.Carried.{Carries, Homomorphism};
 ghost use Rattle.merkle_theory.specs.Cases.{CasesHold};

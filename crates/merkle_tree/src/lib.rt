@@ -1,4 +1,6 @@
 // A Merkle tree that grows, and answers roots, inclusion proofs and consistency proofs from kept digests of whole subtrees.
+#![tactic(auto)]
+
 mod error;
 mod fill;
 mod step;

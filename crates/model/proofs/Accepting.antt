@@ -1,14 +1,13 @@
 -- What was accepted was in time, promised by two logs, and cleared by a fresh list. Assumes nothing.
-use Rattle.std.proofs.Common.{◌≡◌, ℕ, ◌+◌, ◌≤◌, [], ◌∷◌, sym, refl, subst, inl, inr, arith}
+use Rattle.std.proofs.Common.{◌≡◌, ℕ, ◌+◌, ◌≤◌, [], ◌∷◌, sym, subst, inl, inr, arith}
 use mathlib.Core.List.Memᴰ
 use Rattle.model.specs.Lists.{◌∈◌}
-use Rattle.model.specs.Objects.{Certificate, Sct, Acceptance}
+use Rattle.model.specs.Objects.{Sct, Acceptance}
 use Rattle.model.specs.Objects.Signed.{Promised, Listed}
 use Rattle.model.specs.World.{World, Happened, start}
 use Rattle.model.specs.World.Event.{Signs, Accepts}
 use Rattle.model.specs.Rules.{Rules, Steps, Counts, Clears, MayAccept}
 use Rattle.model.specs.Guarantees.{Accepting}
-use Rattle.model.proofs.Past.{Arose}
 use Rattle.model.proofs.Growth.{arose_by_now}
 use Rattle.model.proofs.Issuing.{still, accepting_arose}
 

@@ -1,14 +1,14 @@
 -- The worked cases are runs of the model, and end as they should. Assumes nothing.
-use Rattle.std.proofs.Common.{◌≡◌, ℕ, zero, suc, ◌+◌, ◌≤◌, true, false, ◌⊎◌, List, [], ◌∷◌, ◌++◌, refl, ap, subst, inl, inr, le_refl, arith}
+use Rattle.std.proofs.Common.{◌≡◌, ℕ, zero, suc, ◌+◌, ◌≤◌, true, false, List, [], ◌∷◌, ◌++◌, refl, ap, subst, inl, inr, le_refl, arith}
 use mathlib.Core.Bool.{false≢true}
 use mathlib.Core.List.Memᴰ
 use Rattle.model.specs.Lists.{◌∈◌}
 use Rattle.model.specs.World.{Event, World, Happened, start, apply}
 use Rattle.model.specs.Objects.{Sct}
-use Rattle.model.specs.Objects.Signed.{Issued, Promised}
+use Rattle.model.specs.Objects.Signed.{Promised}
 use Rattle.model.specs.World.Sender.{Owner}
-use Rattle.model.specs.World.Event.{Tick, Orders, Publishes, Signs, Revokes}
-use Rattle.model.specs.Rules.{Rules, May, Steps, IsIssued, IsRevoked, response_to, insert, serials_of}
+use Rattle.model.specs.World.Event.{Tick, Signs}
+use Rattle.model.specs.Rules.{Rules, May, Steps, IsRevoked, insert, serials_of}
 use Rattle.model.specs.Rules.Asked.{by_order}
 use Rattle.model.specs.Rules.Steps.{here, onward}
 use Rattle.std.specs.List.{AllByRecursion as All}

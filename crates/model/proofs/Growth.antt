@@ -1,13 +1,13 @@
 -- What only grows: time, the serials drawn, a log's entries, what a monitor has seen, what is revoked. Assumes nothing.
-use Rattle.std.proofs.Common.{◌≡◌, ℕ, suc, ◌+◌, ◌<◌, ◌≤◌, true, ◌⊎◌, List, [], ◌∷◌, ◌++◌, sym, refl, ap, ◌∙◌, subst, inl, inr, append_assoc, append-nil, le_trans, le_refl, arith}
+use Rattle.std.proofs.Common.{◌≡◌, ℕ, suc, ◌<◌, ◌≤◌, true, List, [], ◌∷◌, ◌++◌, sym, refl, ap, ◌∙◌, subst, append_assoc, append-nil, le_trans, le_refl, arith}
 use mathlib.Core.List.Memᴰ
 use Rattle.model.specs.Lists.{◌∈◌, Begins}
-use Rattle.model.specs.Objects.{Certificate, Order, TreeHead, Revocation}
+use Rattle.model.specs.Objects.{Order, TreeHead, Revocation}
 use Rattle.model.specs.Objects.Signed.{Headed}
 use Rattle.model.specs.World.{Sender, Event, World, Happened, apply, start, no_head, update}
 use Rattle.model.specs.World.Event.{Tick, Asks, Orders, Publishes, Signs, Merges, Takes, Revokes, Accepts}
 use Rattle.model.specs.Rules.{Rules, May, Steps, Extends}
-use Rattle.model.proofs.Past.{kept, happened_before, happened_now_or_before, has_happened, Arose, arose_since_start}
+use Rattle.model.proofs.Past.{kept, happened_before, Arose, arose_since_start}
 use Rattle.model.proofs.Updates.{update_both, update_here}
 
 -- time

@@ -1,5 +1,5 @@
 -- Who issued what is accepted, for whom, and that serials tell orders and certificates apart. Assumes nothing.
-use Rattle.std.proofs.Common.{◌≡◌, ℕ, ◌+◌, ◌<◌, ◌≤◌, true, sym, refl, ap, ◌∙◌, subst, arith}
+use Rattle.std.proofs.Common.{◌≡◌, ℕ, ◌+◌, ◌<◌, ◌≤◌, true, sym, ap, ◌∙◌, subst, arith}
 use Rattle.model.specs.Objects.{Certificate, Wish, Order, Acceptance}
 use Rattle.model.specs.Objects.Signed.{Issued}
 use Rattle.model.specs.World.{Sender, World, Happened, start}

@@ -1,11 +1,11 @@
 -- What is promised comes in sight or convicts, and an honest log is never convicted. Assumes nothing.
-use Rattle.std.proofs.Common.{◌≡◌, ℕ, ◌+◌, ◌<◌, ◌≤◌, true, ◌⊎◌, List, [], ◌∷◌, ◌++◌, sym, refl, ap, ◌∙◌, subst, inl, inr, zero-le, arith}
+use Rattle.std.proofs.Common.{◌≡◌, ℕ, ◌+◌, ◌<◌, ◌≤◌, true, ◌⊎◌, [], ◌∷◌, ◌++◌, sym, refl, ap, ◌∙◌, subst, inl, inr, zero-le, arith}
 use mathlib.Core.List.Memᴰ
 use Rattle.std.proofs.lemmas.Bool.{cases_lt}
 use Rattle.model.specs.Lists.{◌∈◌, Begins}
 use Rattle.model.specs.Objects.{Certificate, Sct, TreeHead}
 use Rattle.model.specs.Objects.Signed.{Issued, Promised, Headed}
-use Rattle.model.specs.World.{Event, World, Happened, start, apply, no_head}
+use Rattle.model.specs.World.{Event, World, Happened, start, apply}
 use Rattle.model.specs.World.Event.{Tick, Asks, Orders, Publishes, Signs, Merges, Takes, Revokes, Accepts}
 use Rattle.model.specs.Rules.{Rules, May, Steps, MayPromise, MayMerge, MayHead, MayTake, Extends}
 use Rattle.model.specs.Guarantees.{Evidence, Answer, Logging}

@@ -2,16 +2,16 @@
 use Rattle.std.proofs.Common.{◌≡◌, ℕ, zero, suc, ◌+◌, ◌-◌, ◌<◌, ◌≤◌, true, ◌⊎◌, List, [], ◌∷◌, ◌++◌, sym, refl, ap, ◌∙◌, subst, inl, inr, le_refl, arith}
 use mathlib.Core.List.Memᴰ
 use Rattle.std.proofs.lemmas.Bool.{cases_eq}
-use Rattle.model.specs.Lists.{◌∈◌, Begins}
+use Rattle.model.specs.Lists.{◌∈◌}
 use Rattle.model.specs.Objects.{Certificate, Order, Sct, TreeHead, RevocationList, Signed, Revocation, Acceptance}
 use Rattle.model.specs.Objects.Signed.{Issued, Promised, Headed, Listed}
 use Rattle.model.specs.World.{Event, World, Happened, start, apply, update}
 use Rattle.model.specs.World.Sender.{Owner}
 use Rattle.model.specs.World.Event.{Tick, Asks, Orders, Publishes, Signs, Merges, Takes, Revokes, Accepts}
-use Rattle.model.specs.Rules.{Rules, May, Steps, Asked, response_to, Drawn, IsIssued, IsRevoked, MayHead, MayTake, serials_of}
+use Rattle.model.specs.Rules.{Rules, May, Steps, response_to, Drawn, IsIssued, IsRevoked, MayHead, MayTake, serials_of}
 use Rattle.model.specs.Rules.Asked.{by_order}
 use Rattle.model.specs.Rules.Steps.{here, onward}
-use Rattle.model.specs.Guarantees.{AskedFor, Acceptable, Shown, Withdrawn, Possible}
+use Rattle.model.specs.Guarantees.{Acceptable, Shown, Withdrawn, Possible}
 use Rattle.model.proofs.Past.{happened_before_another, happened_stays}
 use Rattle.model.proofs.Growth.{entries_after, in_longer}
 use Rattle.model.proofs.Serials.{serial_was_revoked, revoked_has_serial}

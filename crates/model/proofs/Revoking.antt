@@ -1,5 +1,5 @@
 -- What an honest authority revoked is on its lists, and nobody accepts it for longer than a list is fresh. Assumes nothing.
-use Rattle.std.proofs.Common.{◌≡◌, ℕ, ◌+◌, ◌<◌, ◌≤◌, true, ◌⊎◌, List, [], ◌∷◌, sym, refl, ap, ◌∙◌, subst, inl, inr, arith}
+use Rattle.std.proofs.Common.{◌≡◌, ℕ, ◌+◌, ◌<◌, ◌≤◌, true, ◌⊎◌, List, sym, ap, ◌∙◌, subst, inl, inr, arith}
 use mathlib.Core.List.Memᴰ
 use Rattle.std.proofs.lemmas.Bool.{cases_lt}
 use Rattle.model.specs.Lists.{◌∈◌, Rising}
@@ -7,13 +7,13 @@ use Rattle.model.specs.Objects.{Certificate, RevocationList, Revocation, Accepta
 use Rattle.model.specs.Objects.Signed.{Issued, Listed}
 use Rattle.model.specs.World.{Event, World, Happened, start, apply}
 use Rattle.model.specs.World.Event.{Tick, Asks, Orders, Publishes, Signs, Merges, Takes, Revokes, Accepts}
-use Rattle.model.specs.Rules.{Rules, May, Steps, Drawn, MayIssue, MayRevoke, MayList, MayAccept, Clears, serials_of}
+use Rattle.model.specs.Rules.{Rules, May, Steps, Drawn, MayIssue, MayRevoke, MayList, MayAccept, Clears}
 use Rattle.model.specs.Guarantees.{Revoking}
 use Rattle.model.proofs.Past.{kept, has_happened, happened_before, Arose, arose_since_start, Later, InOrder, which_first}
 use Rattle.model.proofs.Past.InOrder.{same, in_order, in_reverse}
 use Rattle.model.proofs.Growth.{arose_by_now, happened_is_revoked}
-use Rattle.model.proofs.Serials.{serials_rise, Tells, serial_was_revoked, revoked_has_serial}
-use Rattle.model.proofs.Issuing.{still, accepting_arose}
+use Rattle.model.proofs.Serials.{serials_rise, serial_was_revoked, revoked_has_serial}
+use Rattle.model.proofs.Issuing.{still}
 
 -- what is on record as revoked was revoked
 

@@ -1,5 +1,5 @@
 -- Worked cases, as runs of the model: when a promise convicts, a log that hides a false certificate, and a revocation. Assumes nothing.
-use Rattle.std.specs.Prelude.{ℕ, zero, suc, ◌+◌, Bool, true, false, List, [], ◌∷◌, ◌++◌, codes, ◌==◌}
+use Rattle.std.specs.Prelude.{ℕ, zero, suc, ◌+◌, Bool, false, List, [], ◌∷◌, ◌++◌, codes, ◌==◌}
 use Rattle.std.specs.List.{AllByRecursion as All}
 use Rattle.model.specs.Lists.{◌∈◌}
 use Rattle.model.specs.Objects.{Certificate, Order, Sct, TreeHead, RevocationList, Acceptance}

@@ -1,4 +1,6 @@
 // The model: who may do what, what is guaranteed of every world that can be reached, and the proof. No code: each function's contract names one theorem.
+#![tactic(auto)]
+
 ghost use Rattle.model.specs.Cases.{CasesHold};
 ghost use Rattle.model.specs.Guarantees.{AcceptedIsSeen, EveryWorldIsSafe};
 

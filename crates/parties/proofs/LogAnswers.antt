@@ -1,5 +1,5 @@
 -- A log's heads, proofs and entries are right. Assumes nothing.
-use Rattle.std.proofs.Common.{◌≡◌, ℕ, zero, suc, ◌+◌, ◌-◌, ◌<◌, ◌≤◌, ◌||◌, eqb, ltb, leb, List, [], ◌∷◌, length, take, drop, None, sym, refl, ap, ◌∙◌, subst, arith, length-take}
+use Rattle.std.proofs.Common.{◌≡◌, ℕ, zero, suc, ◌+◌, ◌-◌, ◌<◌, ◌≤◌, ◌||◌, eqb, ltb, List, [], ◌∷◌, length, take, drop, None, sym, refl, ap, ◌∙◌, subst, arith, length-take}
 use native.Mathlib.Nat.{min-eq_left}
 use lib.ListN.{length-map}
 use Rattle.std.proofs.lemmas.Bool.{or_parts, eqb-false, ltb-false, leb-false}
@@ -10,12 +10,12 @@ use Rattle.merkle_theory.proofs.There.{path-there, consistency-there}
 use Rattle.model.specs.Objects.{Certificate}
 use Rattle.wire_theory.specs.Bytes.{Bytes}
 use Rattle.wire_theory.specs.Messages.{Message, SignedHead}
-use Rattle.wire_theory.specs.Messages.Message.{head, get_head, get_inclusion, get_consistency, get_entries, inclusion, consistency, entries}
+use Rattle.wire_theory.specs.Messages.Message.{head, get_inclusion, get_consistency, get_entries, inclusion, consistency, entries}
 use Rattle.parties.specs.Coding.{Coding, leaf_of, root_of, node_of}
 use Rattle.parties.specs.Steps.{Step, Fault, first_fault, unless}
 use Rattle.parties.specs.Log.{LogView, leaves_in, head_of}
 use Rattle.parties.specs.Handling.{kind, to_log}
-use Rattle.parties.specs.LogAnswers.{LogAnswers, LogsAnswerRight}
+use Rattle.parties.specs.LogAnswers.{LogsAnswerRight}
 use Rattle.parties.proofs.Faults.{unless_cases, first_fault_none}
 
 -- an answer that is no refusal is that of the step

@@ -1,8 +1,8 @@
 -- An authority: orders, challenges, certificates, revocations and lists. Assumes nothing.
-use Rattle.std.specs.Prelude.{ℕ, zero, suc, ◌+◌, ◌/◌, Bool, true, false, cond, not, ◌&&◌, ◌||◌, ltb, leb, List, [], ◌∷◌, ◌++◌, length, take, drop, Some, None, Option, nat_le, nat_lt}
+use Rattle.std.specs.Prelude.{ℕ, zero, suc, ◌+◌, ◌/◌, Bool, true, false, cond, not, ◌&&◌, ltb, leb, List, [], ◌∷◌, ◌++◌, length, take, drop, Some, None, Option, nat_le, nat_lt}
 use Rattle.model.specs.Objects.{Certificate}
 use Rattle.wire_theory.specs.Bytes.{Bytes}
-use Rattle.wire_theory.specs.Messages.{Message, SignedList, Settings}
+use Rattle.wire_theory.specs.Messages.{SignedList, Settings}
 use Rattle.wire_theory.specs.Messages.Message.{certificate, list, challenge, refused}
 use Rattle.parties.specs.Coding.{Coding, same_bytes}
 use Rattle.parties.specs.Steps.{Step, Tick, answers, ◌⇒◌, unless, is_some, too_large}

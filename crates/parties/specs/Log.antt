@@ -1,5 +1,5 @@
 -- A log: promises, merging, heads, proofs and entries. Assumes nothing.
-use Rattle.std.specs.Prelude.{ℕ, ◌+◌, ◌-◌, Bool, true, false, cond, not, ◌&&◌, ◌||◌, ltb, List, [], ◌∷◌, ◌++◌, length, take, drop, ◌==◌, nat_le, nat_lt}
+use Rattle.std.specs.Prelude.{ℕ, ◌+◌, ◌-◌, Bool, cond, not, ◌&&◌, ◌||◌, ltb, List, [], ◌∷◌, ◌++◌, length, take, drop, ◌==◌, nat_le, nat_lt}
 use Rattle.merkle_theory.specs.Bytes.{over_leaves}
 use Rattle.merkle_theory.specs.Tree.{path, consistency}
 use Rattle.model.specs.Objects.{Certificate}

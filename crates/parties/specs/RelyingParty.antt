@@ -4,7 +4,7 @@ use Rattle.merkle_theory.specs.Tree.{root_from_path}
 use Rattle.model.specs.Objects.{Certificate}
 use Rattle.model.specs.World.{update}
 use Rattle.wire_theory.specs.Bytes.{Bytes}
-use Rattle.wire_theory.specs.Messages.{Message, SignedSct, SignedHead, SignedList, Settings, MonitorAnswer}
+use Rattle.wire_theory.specs.Messages.{Message, SignedSct, SignedList, Settings, MonitorAnswer}
 use Rattle.wire_theory.specs.Messages.Message.{bring, accepted}
 use Rattle.wire_theory.specs.Messages.MonitorAnswer.{included, not_due, convicts, no_head_so_late}
 use Rattle.parties.specs.Coding.{Coding, same_bytes, leaf_of, node_of, right_certificate, right_sct, right_head, right_list}

@@ -1,4 +1,6 @@
 // The parties as definitions: for each a view, and for each message and each tick the view after it, the answer, and what is sent. No code: each function's contract names one theorem.
+#![tactic(auto)]
+
 ghost use Rattle.parties.specs.AuthorityInvariants.{AuthorityInvariantsHold};
 ghost use Rattle.parties.specs.Cases.{CasesHold};
 ghost use Rattle.parties.specs.Granting.{GrantsWhatIsDue};

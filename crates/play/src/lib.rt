@@ -1,4 +1,6 @@
 // Plays a script's commands over the entries of one log.
+#![tactic(auto)]
+
 mod answer;
 mod harbour;
 mod perform;

@@ -1,5 +1,7 @@
 // The coding in use, with SHA-256 and any scheme of signatures, meets what the system's theorems ask of a coding.
 // No code: each function's contract names one theorem.
+#![tactic(auto)]
+
 ghost use Rattle.real_coding.specs.Claims.{ReadableIsWellFormed, RealIsSound, SealsIgnoreSeals, StandInIsSound, StandInSealsFit};
 
 // It is sound with any scheme of signatures.

@@ -1,12 +1,11 @@
 -- Where words say a command, no fault but want of memory is so. Assumes nothing.
-use Rattle.std.proofs.Common.{◌≡◌, ℕ, zero, suc, ◌<◌, Bool, true, false, List, [], ◌∷◌, length, get_or, vec_items, codes, sym, refl, ap, ◌∙◌, subst, true≢false, arith, le-leb}
+use Rattle.std.proofs.Common.{◌≡◌, ℕ, zero, suc, List, [], ◌∷◌, vec_items, codes, sym, refl, ◌∙◌, subst, true≢false, arith, le-leb}
 use Rattle.merkle.specs.declared.digest.Digest.{Digest}
-use Rattle.script.specs.declared.command.Command.{Command}
 use Rattle.script.specs.declared.command.Command.TheVariants.{Enter, Top, TopOf, Way, Proof, Leads, GoesOn}
 use Rattle.script.specs.declared.command.Fault.{Fault}
 use Rattle.script.specs.declared.command.Fault.TheVariants.{UnknownCommand, Takes, NotANumber, NotADigest, NoMemory}
 use Rattle.script.specs.Texts.{Decimal, NoDecimal, Hex, NoHex}
-use Rattle.script.specs.Grammar.{Word, Hexes, Says, Stands, Wrong, FaultsAreFaults}
+use Rattle.script.specs.Grammar.{Word, Hexes, Stands, Wrong, FaultsAreFaults}
 
 no_word : (w : Word) → Stands [] w → ⊥
 no_word w s = omega (arith, s.1)

@@ -8,7 +8,6 @@ use Rattle.script.specs.declared.command.Command.TheVariants.{Enter, Top, TopOf,
 use Rattle.script.specs.declared.command.Fault.{Fault}
 use Rattle.script.specs.declared.command.Fault.TheVariants.{UnknownCommand, Takes, NotANumber, NotADigest, NoMemory}
 use Rattle.script.specs.declared.command.Verb.{Verb}
-use Rattle.script.specs.declared.command.Verb.TheVariants as Verb
 use Rattle.script.specs.Texts.{Decimal, NoDecimal, Hex, NoHex}
 
 abbrev pub Word : Type 0

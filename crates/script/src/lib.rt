@@ -1,4 +1,6 @@
 // The script language of `harbour`: a line has a command, a comment after '#', or nothing.
+#![tactic(auto)]
+
 mod command;
 mod hex;
 mod number;

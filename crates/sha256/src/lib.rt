@@ -1,5 +1,7 @@
 // SHA-256: of a message at once, of one that comes in parts, of two digests under a tag, and of four
 // such pairs at a time.
+#![tactic(auto)]
+
 ghost use Rattle.std.specs.Prelude.{◌≡◌};
 ghost use Rattle.sha256.specs.Standard.{digest};
 

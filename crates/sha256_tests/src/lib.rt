@@ -1,4 +1,6 @@
 // Tests of the hasher: a message of any length, cut in two anywhere, has the digest of the whole.
+#![tactic(auto)]
+
 ghost use Rattle.std.specs.Prelude.{◌≡◌};
 ghost use Rattle.sha256.specs.Standard.{digest};
 

@@ -1,4 +1,6 @@
 // Messages in words.
+#![tactic(auto)]
+
 mod digits;
 mod fields;
 mod messages;

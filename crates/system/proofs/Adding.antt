@@ -1,10 +1,10 @@
 -- More texts, and more events, take nothing away from what a state stands for. Assumes nothing.
-use Rattle.std.proofs.Common.{◌≡◌, ℕ, ◌≤◌, true, ◌⊎◌, List, [], ◌∷◌, ◌++◌, Some, None, Option, sym, refl, ap, ◌∙◌, subst, inl, inr, le_trans}
+use Rattle.std.proofs.Common.{◌≡◌, ℕ, ◌≤◌, List, Some, None, Option, le_trans}
 use Rattle.model.specs.Lists.{◌∈◌}
-use Rattle.model.specs.Objects.{Certificate, Wish, Order, Sct, TreeHead, Revocation}
-use Rattle.model.specs.Objects.Signed.{Issued, Promised, Headed, Listed}
-use Rattle.model.specs.World.{Sender, Event, World}
-use Rattle.model.specs.World.Event.{Tick, Asks, Orders, Publishes, Signs, Merges, Takes, Revokes, Accepts}
+use Rattle.model.specs.Objects.{Certificate, Sct, TreeHead, Revocation}
+use Rattle.model.specs.Objects.Signed.{Issued, Promised}
+use Rattle.model.specs.World.{Event}
+use Rattle.model.specs.World.Event.{Signs, Revokes}
 use Rattle.wire_theory.specs.Bytes.{Bytes}
 use Rattle.wire_theory.specs.Messages.{SignedSct, SignedHead, SignedList}
 use Rattle.parties.specs.Log.{LogView}
@@ -12,7 +12,7 @@ use Rattle.parties.specs.Monitor.{Seen}
 use Rattle.parties.specs.Authority.{AuthorityView}
 use Rattle.parties.specs.RelyingParty.{Kept}
 use Rattle.system.specs.Setup.{Setup}
-use Rattle.system.specs.Runs.{Sealed, Place, State}
+use Rattle.system.specs.Runs.{Sealed, Place}
 use Rattle.system.specs.Runs.Sealed.{SealedCertificate, SealedSct, SealedHead, SealedList}
 use Rattle.system.specs.Stands.{Texted, AllTexted, Within, SctStands, HeadStands, SealedStands, PlaceStands, LogStands, SeenStands, AuthorityStands, ListStands, KeptStands}
 

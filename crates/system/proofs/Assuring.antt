@@ -1,8 +1,8 @@
 -- What the model guarantees, in the parties' own terms. Assumes nothing.
-use Rattle.std.proofs.Common.{◌≡◌, ℕ, suc, ◌+◌, ◌≤◌, Bool, true, false, cond, ◌⊎◌, List, [], ◌∷◌, ◌++◌, length, Some, None, Option, sym, refl, ap, ◌∙◌, subst, inl, inr, true≢false, arith}
+use Rattle.std.proofs.Common.{◌≡◌, ℕ, ◌+◌, ◌≤◌, Bool, true, false, cond, ◌⊎◌, List, [], ◌∷◌, ◌++◌, length, Some, None, Option, sym, refl, ap, ◌∙◌, subst, inl, inr, true≢false, arith}
 use mathlib.Core.List.Memᴰ
 use lib.ListN.{length-map}
-use Rattle.std.proofs.lemmas.Bool.{cases_Bool, eqb-true, and_parts, leb-false}
+use Rattle.std.proofs.lemmas.Bool.{eqb-true, and_parts, leb-false}
 use Rattle.model.specs.Lists.{◌∈◌}
 use Rattle.merkle_theory.specs.Bytes.{texts}
 use Rattle.merkle_theory.specs.Digests.{Long}
@@ -11,33 +11,28 @@ use Rattle.merkle_theory.proofs.RootTells.{collision_within}
 use Rattle.merkle_theory.proofs.Told.{root-told_of_rows}
 use Rattle.std.specs.List.{AllByRecursion as All}
 use Rattle.model.specs.Objects.{Certificate, Wish, Order, TreeHead}
-use Rattle.model.specs.Objects.Signed.{Issued, Promised}
-use Rattle.model.specs.World.{World, start}
 use Rattle.model.specs.World.Sender.{Owner, Somebody}
-use Rattle.model.specs.World.Event.{Asks, Orders, Publishes, Signs, Accepts}
-use Rattle.model.specs.Rules.{Steps, Asked, wish_of, wish_in, response_to}
+use Rattle.model.specs.World.Event.{Asks, Orders}
+use Rattle.model.specs.Rules.{Asked, wish_of}
 use Rattle.model.specs.Rules.Asked.{by_order, by_message}
 use Rattle.model.specs.Guarantees.{Guarantees}
 use Rattle.model.proofs.Safe.{every_world_is_safe}
 use Rattle.wire_theory.specs.Bytes.{Bytes}
 use Rattle.wire_theory.specs.Messages.{SignedSct, SignedHead}
 use Rattle.parties.specs.Coding.{same_bytes, has, leaf_of, leaves_of, root_texts_of}
-use Rattle.parties.specs.Authority.{Account, account_of}
-use Rattle.parties.specs.Evidence.{judge}
 use Rattle.parties.specs.Evidence.Verdict.{Convicts}
 use Rattle.parties.specs.Monitor.{Seen, tick_of, with_name}
 use Rattle.parties.specs.RelyingParty.{Kept}
-use Rattle.parties.proofs.Compared.{same_true, has_true, has_false, same_from, has_from}
+use Rattle.parties.proofs.Compared.{same_true, has_false, same_from}
 use Rattle.parties.proofs.Judging.{judges_right}
 use Rattle.parties.specs.Judging.{Tells}
 use Rattle.parties.specs.Judging.Tells.{convicts}
 use Rattle.system.specs.Setup.{Setup, Sound, Collides, rules_of}
 use Rattle.system.specs.Runs.{Place, State}
-use Rattle.system.specs.Runs.Sealed.{SealedCertificate, SealedSct, SealedHead}
+use Rattle.system.specs.Runs.Sealed.{SealedSct, SealedHead}
 use Rattle.system.specs.Stands.{sct_of, head_of, acceptance_of, order_of, SeenStands, SctKept, HeadKept, Reaches}
-use Rattle.system.specs.Assured.{OfEveryRun, AcceptedWasIssued, AskedFor, IssuedWasAskedFor, OneCertificate, Sees, Evident, AcceptedIsSeen, HonestIsSeen, RevokedIsNotAccepted, NeverConvicted}
-use Rattle.system.proofs.Digests.{stands_there, one_certificate}
-use Rattle.system.proofs.Faults.{some_none, same_some}
+use Rattle.system.specs.Assured.{OfEveryRun, AcceptedWasIssued, IssuedWasAskedFor, OneCertificate, Sees, Evident, AcceptedIsSeen, HonestIsSeen, RevokedIsNotAccepted, NeverConvicted}
+use Rattle.system.proofs.Digests.{stands_there}
 use Rattle.system.proofs.Monitors.{leaves_long}
 use Rattle.system.proofs.Refining.{refines}
 

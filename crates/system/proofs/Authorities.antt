@@ -1,29 +1,28 @@
 -- An authority wakes, and signs lists. Assumes nothing.
-use Rattle.std.proofs.Common.{◌≡◌, ℕ, zero, suc, ◌+◌, ◌<◌, ◌≤◌, Bool, true, false, cond, not, ◌&&◌, eqb, ltb, ◌⊎◌, List, [], ◌∷◌, ◌++◌, Some, None, Option, sym, refl, ap, ◌∙◌, subst, inl, inr, true≢false, le_refl, arith}
+use Rattle.std.proofs.Common.{◌≡◌, ℕ, zero, suc, ◌+◌, ◌<◌, ◌≤◌, true, eqb, ltb, ◌⊎◌, List, [], ◌∷◌, Some, None, Option, sym, refl, ap, ◌∙◌, subst, inl, inr, true≢false, le_refl, arith}
 use mathlib.Core.List.Memᴰ
-use Rattle.std.proofs.lemmas.Bool.{cond_both, cond-true, cond-false, eq-eqb, ne_eqb, leb-true, le-leb, ltb-false}
+use Rattle.std.proofs.lemmas.Bool.{cond_both, cond-true, cond-false, eq-eqb, ne_eqb, leb-true, le-leb}
 use Rattle.model.specs.Lists.{◌∈◌, Rising}
-use Rattle.model.specs.Objects.{RevocationList, Revocation}
+use Rattle.model.specs.Objects.{Revocation}
 use Rattle.model.specs.Objects.Signed.{Listed}
-use Rattle.model.specs.World.{Event, World, start, apply, update}
-use Rattle.model.specs.World.Event.{Signs, Revokes}
+use Rattle.model.specs.World.{Event, World, start, apply}
+use Rattle.model.specs.World.Event.{Signs}
 use Rattle.model.specs.Rules.{Steps, serials_of}
 use Rattle.model.specs.Rules.Steps.{onward}
 use Rattle.model.proofs.Growth.{happened_is_revoked}
 use Rattle.model.proofs.Revoking.{revoked_has_happened}
-use Rattle.model.proofs.Serials.{Tells, serials_rise, serial_was_revoked, revoked_has_serial}
+use Rattle.model.proofs.Serials.{serials_rise, serial_was_revoked, revoked_has_serial}
 use Rattle.wire_theory.specs.Messages.{SignedList}
 use Rattle.parties.specs.Steps.{Tick}
-use Rattle.parties.specs.Authority.{Account, AuthorityView, account_of, is_recent, listed_from, serials_at, listing, arrived_at, on_get_list, waits, list_of as signedListOf}
-use Rattle.parties.specs.Authority
+use Rattle.parties.specs.Authority.{Account, AuthorityView, account_of, is_recent, listed_from, serials_at, listing, arrived_at, on_get_list, list_of as signedListOf}
 use Rattle.parties.proofs.Accounts.{from_one, listed_rises, was_revoked, is_listed}
 use Rattle.system.specs.Setup.{Setup, rules_of}
 use Rattle.system.specs.Runs.{Sealed, State, with_authority, signing, signed_in_all, authority_does, step}
 use Rattle.system.specs.Runs.Sealed.{SealedList}
-use Rattle.system.specs.Runs.Move.{WakeAuthority, GetList}
+use Rattle.system.specs.Runs.Move.{WakeAuthority}
 use Rattle.system.specs.Stands.{list_of, SealedStands, AuthorityStands, Stands, Reaches}
-use Rattle.system.proofs.Adding.{Among, authority_more}
-use Rattle.system.proofs.Framing.{also, Parts, parts_more, quiet_log, quiet_issued, quiet_revoked, heard_more, heard_with, unchanged, listed_log, listed_authority}
+use Rattle.system.proofs.Adding.{authority_more}
+use Rattle.system.proofs.Framing.{also, parts_more, quiet_log, quiet_issued, quiet_revoked, heard_more, heard_with, unchanged, listed_log, listed_authority}
 use Rattle.system.proofs.Logs.{update_one}
 use Rattle.system.proofs.Faults.{some_none, unless_both}
 

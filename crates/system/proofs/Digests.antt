@@ -1,9 +1,9 @@
 -- One digest, one certificate; one root, one list of certificates: or two texts that were hashed collide. Assumes nothing.
-use Rattle.std.proofs.Common.{◌≡◌, ℕ, ◌≤◌, Bool, true, false, cond, ◌||◌, ◌⊎◌, List, [], ◌∷◌, ◌++◌, map, length, sym, refl, ap, ◌∙◌, subst, inl, inr, true≢false}
+use Rattle.std.proofs.Common.{◌≡◌, ℕ, true, false, ◌⊎◌, List, [], ◌∷◌, sym, refl, subst, inl, inr, true≢false}
 use mathlib.Core.List.Memᴰ
 use mathlib.Core.List.{List-discrete}
 use native.Mathlib.Decide.{ℕ_discrete}
-use Rattle.std.proofs.lemmas.Bool.{cases_Bool, or_cases}
+use Rattle.std.proofs.lemmas.Bool.{or_cases}
 use Rattle.model.specs.Lists.{◌∈◌}
 use Rattle.model.specs.Objects.{Certificate}
 use Rattle.wire_theory.specs.Bytes.{Bytes}

@@ -1,5 +1,5 @@
 -- What a first fault tells of each. Assumes nothing.
-use Rattle.std.proofs.Common.{◌≡◌, ℕ, Bool, true, false, cond, not, ◌&&◌, List, [], ◌∷◌, Some, None, Option, sym, refl, ap, ◌∙◌}
+use Rattle.std.proofs.Common.{◌≡◌, ℕ, Bool, true, false, cond, List, ◌∷◌, Some, None, Option, refl}
 use Rattle.wire_theory.specs.Messages.Message.{refused}
 use Rattle.parties.specs.Steps.{Step, answers, Fault, first_fault, unless_so, unless}
 

@@ -1,8 +1,8 @@
 -- What stays as an event is added and texts are hashed, for all parties whose own the event isn't. Assumes nothing.
-use Rattle.std.proofs.Common.{◌≡◌, ℕ, ◌≤◌, true, ◌⊎◌, List, [], ◌∷◌, ◌++◌, sym, refl, ap, ◌∙◌, subst, inl, inr, le_refl, arith}
+use Rattle.std.proofs.Common.{◌≡◌, ℕ, ◌≤◌, true, List, ◌∷◌, ◌++◌, sym, ap, ◌∙◌, subst, inl, inr, arith}
 use mathlib.Core.List.Memᴰ
 use Rattle.model.specs.Lists.{◌∈◌}
-use Rattle.model.specs.Objects.{Certificate, Wish, Order, Sct, TreeHead, Revocation, Signed, Acceptance, RevocationList}
+use Rattle.model.specs.Objects.{Certificate, Wish, Order, Sct, TreeHead, Revocation, Acceptance, RevocationList}
 use Rattle.model.specs.Objects.Signed.{Issued, Promised, Headed, Listed}
 use Rattle.model.specs.World.{Sender, Event, World}
 use Rattle.model.specs.World.Sender.{Owner, Somebody}

@@ -1,28 +1,22 @@
 -- A log signs a head, and a monitor takes one. Assumes nothing.
-use Rattle.std.proofs.Common.{◌≡◌, ℕ, suc, ◌+◌, ◌<◌, ◌≤◌, Bool, true, false, cond, not, ◌&&◌, eqb, ltb, ◌⊎◌, List, [], ◌∷◌, ◌++◌, map, length, Some, None, Option, sym, refl, ap, ◌∙◌, subst, inl, inr, true≢false, le_refl, arith}
+use Rattle.std.proofs.Common.{◌≡◌, ℕ, suc, true, List, [], ◌∷◌, ◌++◌, sym, refl, ap, ◌∙◌, subst, inl, inr, le_refl, arith}
 use mathlib.Core.List.Memᴰ
-use Rattle.std.specs.List.{AllByRecursion as All}
-use Rattle.std.proofs.lemmas.Bool.{eqb-true, ltb-false, not-false, and_parts, cases_Bool}
-use Rattle.merkle_theory.specs.Bytes.{texts, over_leaves}
-use Rattle.merkle_theory.specs.Digests.{Long}
-use Rattle.merkle_theory.specs.Texts.{Collision, row_texts}
-use Rattle.model.specs.Lists.{◌∈◌}
-use Rattle.model.specs.Objects.{Certificate, Sct, TreeHead}
-use Rattle.model.specs.Objects.Signed.{Headed, Promised}
-use Rattle.model.specs.World.{Event, World, start, apply, update}
-use Rattle.model.specs.World.Event.{Signs, Takes}
+use Rattle.model.specs.Objects.{TreeHead}
+use Rattle.model.specs.Objects.Signed.{Headed}
+use Rattle.model.specs.World.{World, start, apply}
+use Rattle.model.specs.World.Event.{Signs}
 use Rattle.model.specs.Rules.{Steps, MayHead}
 use Rattle.model.specs.Rules.Steps.{onward}
 use Rattle.wire_theory.specs.Bytes.{Bytes}
 use Rattle.wire_theory.specs.Messages.{SignedHead}
-use Rattle.parties.specs.Coding.{leaf_text, leaf_of, leaves_of, root_of, root_texts_of, right_head}
+use Rattle.parties.specs.Coding.{leaves_of, root_texts_of}
 use Rattle.parties.specs.Log.{head_of as signedHeadOf}
-use Rattle.system.specs.Setup.{Setup, Sound, Collides, rules_of}
+use Rattle.system.specs.Setup.{Setup, Sound, rules_of}
 use Rattle.system.specs.Runs.{Sealed, State, with_log, signing, hashing, log_does, step}
 use Rattle.system.specs.Runs.Sealed.{SealedHead}
 use Rattle.system.specs.Runs.Move.{GetHead}
 use Rattle.system.specs.Stands.{head_of, SealedStands, LogStands, Stands, Reaches}
-use Rattle.system.proofs.Framing.{also, among_more, Parts, parts_more, quiet_log, quiet_issued, quiet_revoked, heard_with, headed_log, headed_authority}
+use Rattle.system.proofs.Framing.{also, among_more, parts_more, quiet_log, quiet_issued, quiet_revoked, heard_with, headed_log, headed_authority}
 use Rattle.system.proofs.Adding.{all_texted_more}
 use Rattle.system.proofs.Logs.{as_with_log}
 use Rattle.system.proofs.Faults.{unless_both}

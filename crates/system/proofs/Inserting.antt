@@ -1,5 +1,5 @@
 -- What a dishonest signer signed is put into the world's past when an honest party uses it; what an honest one signed is there already. Assumes nothing.
-use Rattle.std.proofs.Common.{◌≡◌, ℕ, suc, ◌≤◌, Bool, true, false, ◌⊎◌, List, [], ◌∷◌, sym, refl, ap, ◌∙◌, subst, inl, inr, true≢false, le_refl}
+use Rattle.std.proofs.Common.{◌≡◌, ℕ, suc, Bool, true, false, ◌⊎◌, sym, refl, ap, ◌∙◌, inl, inr, true≢false, le_refl}
 use mathlib.Core.List.Memᴰ
 use Rattle.std.proofs.lemmas.Bool.{cases_Bool}
 use Rattle.model.specs.Lists.{◌∈◌}
@@ -10,10 +10,10 @@ use Rattle.model.specs.World.Event.{Signs}
 use Rattle.model.specs.Rules.{Steps, MaySign}
 use Rattle.model.specs.Rules.Steps.{onward}
 use Rattle.system.specs.Setup.{Setup, rules_of}
-use Rattle.system.specs.Runs.{Sealed, State}
+use Rattle.system.specs.Runs.{State}
 use Rattle.system.specs.Stands.{Stands, Heard}
 use Rattle.system.proofs.Adding.{Among}
-use Rattle.system.proofs.Framing.{also, Parts, parts_more, QuietLog, QuietAuthority, quiet_log, quiet_issued, quiet_revoked, heard_with, unchanged, issued_log, issued_authority, promised_log, promised_authority, headed_log, headed_authority, listed_log, listed_authority}
+use Rattle.system.proofs.Framing.{also, parts_more, QuietLog, QuietAuthority, quiet_log, quiet_issued, quiet_revoked, heard_with, unchanged, issued_log, issued_authority, promised_log, promised_authority, headed_log, headed_authority, listed_log, listed_authority}
 
 -- a further world for which the same state stands
 pub record Further (S : Setup) (s : State) (w : World) : Type 0 where

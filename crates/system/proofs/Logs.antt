@@ -1,30 +1,22 @@
 -- A log wakes and merges, promises, and signs heads. Assumes nothing.
-use Rattle.std.proofs.Common.{◌≡◌, ℕ, suc, ◌+◌, ◌<◌, ◌≤◌, Bool, true, false, cond, not, eqb, ltb, ◌⊎◌, List, [], ◌∷◌, ◌++◌, Some, None, Option, sym, refl, ap, ◌∙◌, subst, inl, inr, true≢false, le_refl, arith}
+use Rattle.std.proofs.Common.{◌≡◌, ℕ, suc, Bool, true, false, cond, eqb, ltb, ◌⊎◌, List, [], ◌∷◌, ◌++◌, sym, refl, ap, subst, inl, inr, le_refl}
 use mathlib.Core.List.Memᴰ
-use Rattle.std.proofs.lemmas.Bool.{cond_both, cases_Bool, eqb-true, eqb-false, ltb-true, cond-true, cond-false, eq-eqb, ne_eqb, not-false}
+use Rattle.std.proofs.lemmas.Bool.{cond_both, eqb-true, eqb-false, cond-true, cond-false, eq-eqb, ne_eqb}
 use Rattle.model.specs.Lists.{◌∈◌}
-use Rattle.model.specs.Objects.{Certificate, Sct, TreeHead}
-use Rattle.model.specs.Objects.Signed.{Issued, Promised, Headed}
-use Rattle.model.specs.World.{Event, World, start, apply, update}
-use Rattle.model.specs.World.Event.{Signs, Merges}
+use Rattle.model.specs.Objects.{Certificate, Sct}
+use Rattle.model.specs.World.{World, start, apply, update}
+use Rattle.model.specs.World.Event.{Merges}
 use Rattle.model.specs.Rules.{Steps}
 use Rattle.model.specs.Rules.Steps.{onward}
-use Rattle.wire_theory.specs.Bytes.{Bytes}
-use Rattle.wire_theory.specs.Messages.{SignedSct, SignedHead}
-use Rattle.parties.specs.Coding.{has, leaf_text, leaf_of, leaves_of, root_of, root_texts_of, right_certificate}
-use Rattle.parties.specs.Steps.{first_fault}
+use Rattle.parties.specs.Coding.{has, leaf_of, leaves_of}
 use Rattle.parties.specs.Log.{LogView, is_merged, promised, promise_of, merged_with, merges, head_of, on_submit, on_get_head}
 use Rattle.parties.specs.Log
 use Rattle.system.specs.Setup.{Setup, Sound, Collides, rules_of}
-use Rattle.system.specs.Runs.{Sealed, State, with_log, signing, hashing, LogAwake, Lawful, step, Move}
-use Rattle.system.specs.Runs.Sealed.{SealedCertificate, SealedSct, SealedHead}
-use Rattle.system.specs.Runs.Move.{WakeLog, Submit, GetHead}
-use Rattle.system.specs.Stands.{sct_of, Texted, AllTexted, SealedStands, LogStands, Stands, Reaches}
-use Rattle.system.proofs.Adding.{all_texted_more, texted_more, log_more}
-use Rattle.system.proofs.Framing.{also, among_more, Parts, parts_more, quiet_log, quiet_issued, quiet_revoked, heard_with, heard_more, unchanged, merges_log, merges_authority, promised_log, promised_authority, headed_log, headed_authority}
-use Rattle.system.proofs.Inserting.{Further, Has, have_issued}
+use Rattle.system.specs.Runs.{State, with_log}
+use Rattle.system.specs.Stands.{LogStands, Stands, Reaches}
+use Rattle.system.proofs.Adding.{log_more}
+use Rattle.system.proofs.Framing.{also, parts_more, quiet_log, quiet_issued, quiet_revoked, heard_with, heard_more, unchanged, merges_log, merges_authority}
 use Rattle.system.proofs.Digests.{stands_there}
-use Rattle.system.proofs.Faults.{no_first, no_more}
 
 -- two functions, each with another value at one argument
 pub update_two : {A B : Type 0} (i : ℕ) (x : A) (f : ℕ → A) (y : B) (g : ℕ → B) (j : ℕ) (P : A → B → Type 0) → (j ≡ i → P x y) → (¬ (j ≡ i) → P (f j) (g j)) →

@@ -1,5 +1,5 @@
 -- A monitor wakes, and takes heads. Assumes nothing.
-use Rattle.std.proofs.Common.{◌≡◌, ℕ, suc, ◌+◌, ◌≤◌, Bool, true, false, cond, not, ◌&&◌, eqb, ltb, ◌⊎◌, List, [], ◌∷◌, ◌++◌, map, length, Some, None, Option, sym, refl, ap, ◌∙◌, subst, inl, inr, append_assoc, le_refl, arith}
+use Rattle.std.proofs.Common.{◌≡◌, ℕ, suc, ◌≤◌, Bool, true, false, cond, eqb, ltb, ◌⊎◌, List, [], ◌∷◌, ◌++◌, map, length, Some, None, Option, sym, refl, ap, ◌∙◌, subst, inl, inr, le_refl}
 use mathlib.Core.List.Memᴰ
 use mathlib.Core.List.{map-append}
 use lib.ListN.{length-map}
@@ -7,32 +7,31 @@ use Rattle.std.specs.List.{AllByRecursion as All}
 use Rattle.std.proofs.lemmas.Bool.{cond_both, cond-true, cond-false, eq-eqb, ne_eqb, eqb-true, ltb-false, not-false, and_parts, cases_Bool}
 use Rattle.merkle_theory.specs.Bytes.{texts}
 use Rattle.merkle_theory.specs.Digests.{Long}
-use Rattle.merkle_theory.specs.Texts.{Collision, row_texts}
+use Rattle.merkle_theory.specs.Texts.{row_texts}
 use Rattle.merkle_theory.proofs.Digests.{bytes_lawful}
 use Rattle.merkle_theory.proofs.RootTells.{collision_within}
 use Rattle.merkle_theory.proofs.Told.{root-told_of_rows}
 use Rattle.model.specs.Lists.{◌∈◌}
 use Rattle.model.specs.Objects.{Certificate, TreeHead}
 use Rattle.model.specs.Objects.Signed.{Headed}
-use Rattle.model.specs.World.{Event, World, start, apply, update}
+use Rattle.model.specs.World.{World, start, apply, update}
 use Rattle.model.specs.World.Event.{Signs, Takes}
 use Rattle.model.specs.Rules.{Steps, Extends}
 use Rattle.model.specs.Rules.Steps.{onward}
 use Rattle.wire_theory.specs.Bytes.{Bytes}
-use Rattle.wire_theory.specs.Messages.{Message, MonitorAnswer, SignedSct, SignedHead}
+use Rattle.wire_theory.specs.Messages.{MonitorAnswer, SignedSct, SignedHead}
 use Rattle.parties.specs.Coding.{same_bytes, leaf_text, leaf_of, leaves_of, root_of, root_texts_of, right_head}
 use Rattle.parties.specs.Steps.{first_fault}
 use Rattle.parties.specs.Evidence.{gives_root}
 use Rattle.parties.specs.Monitor.{Seen, MonitorView, Fetched, digests_with, faults_of, takes, tick_of, with_name, with_seen, looked_by, on_fetched, answer_by, lastly, asking, asked_for, answering, faults_of_brought, brought_by}
-use Rattle.parties.specs.Monitor
 use Rattle.system.specs.Setup.{Setup, Sound, Collides, rules_of}
 use Rattle.system.specs.Runs.{State, with_monitor, hashing, hashed_for, taking_texts, unless_fault, asking_texts, bringing_texts, Lawful, step}
 use Rattle.system.specs.Runs.Sealed.{SealedHead}
 use Rattle.system.specs.Runs.Move.{Take, Bring, WakeMonitor}
-use Rattle.system.specs.Stands.{head_of, Within, Texted, AllTexted, HeadStands, HeadKept, SeenStands, Stands, Reaches}
+use Rattle.system.specs.Stands.{head_of, Within, AllTexted, HeadStands, HeadKept, SeenStands, Stands, Reaches}
 use Rattle.system.proofs.Adding.{texted_more, seen_more}
-use Rattle.system.proofs.Framing.{also, among_more, Parts, parts_more, quiet_log, quiet_issued, quiet_revoked, heard_more, heard_with, unchanged, takes_log, takes_authority}
-use Rattle.system.proofs.Inserting.{Further, Has, not_both, have_headed}
+use Rattle.system.proofs.Framing.{also, among_more, parts_more, quiet_log, quiet_issued, quiet_revoked, heard_more, heard_with, unchanged, takes_log, takes_authority}
+use Rattle.system.proofs.Inserting.{not_both, have_headed}
 use Rattle.system.proofs.Logs.{update_one, update_two}
 use Rattle.system.proofs.Digests.{same_bytes_lem, one_list}
 use Rattle.system.proofs.Faults.{same_some, no_first, no_more}

@@ -1,5 +1,5 @@
 -- An authority draws challenges, issues, and revokes. Assumes nothing.
-use Rattle.std.proofs.Common.{◌≡◌, ℕ, zero, suc, ◌+◌, ◌^◌, ◌<◌, ◌≤◌, Bool, true, false, cond, not, ◌&&◌, eqb, ltb, leb, ◌⊎◌, List, [], ◌∷◌, ◌++◌, length, take, Some, None, Option, sym, refl, ap, ◌∙◌, subst, inl, inr, true≢false, le_refl, arith, length-take}
+use Rattle.std.proofs.Common.{◌≡◌, ℕ, zero, suc, ◌+◌, ◌^◌, ◌<◌, ◌≤◌, true, false, ◌⊎◌, List, [], ◌∷◌, ◌++◌, length, take, Some, None, Option, sym, refl, ap, ◌∙◌, subst, inl, inr, true≢false, le_refl, arith, length-take}
 use mathlib.Core.List.Memᴰ
 use mathlib.Core.List.{List-discrete}
 use native.Mathlib.Decide.{ℕ_discrete}
@@ -7,24 +7,21 @@ use Rattle.std.proofs.lemmas.Bool.{cond_both, cases_eq, ltb-false, leb-false, no
 use Rattle.model.specs.Lists.{◌∈◌}
 use Rattle.model.specs.Objects.{Certificate, Order, Response, Revocation}
 use Rattle.model.specs.Objects.Signed.{Issued}
-use Rattle.model.specs.World.{Event, World, start, apply, update}
+use Rattle.model.specs.World.{Event, World, start, apply}
 use Rattle.model.specs.World.Sender.{Somebody}
 use Rattle.model.specs.World.Event.{Orders, Publishes, Signs, Revokes}
 use Rattle.model.specs.Rules.{Steps, response_to}
 use Rattle.model.specs.Rules.Steps.{onward}
-use Rattle.model.proofs.Updates.{update_here}
 use Rattle.wire_theory.specs.Bytes.{Bytes}
-use Rattle.wire_theory.specs.Messages.Message.{refused}
-use Rattle.parties.specs.Steps.{Step, is_some, answers, first_fault}
-use Rattle.parties.specs.Authority.{Account, AuthorityView, account_of, with_account, next_serial, account_for, ordered, on_order, is_response, certificate_for, issued_to, with_accounts, on_published_to, on_published, revoked_at, revoking, revokes, on_get_list, on_revoke_of, on_revoke, withdraw_of, withdraw}
-use Rattle.parties.proofs.Accounts.{new_account, account_stays, account_exchanged, another_account, as_many_accounts}
+use Rattle.parties.specs.Steps.{Step, is_some}
+use Rattle.parties.specs.Authority.{Account, AuthorityView, account_of, with_account, next_serial, account_for, ordered, is_response, certificate_for, issued_to, with_accounts, on_published_to, revoked_at, revoking, revokes, on_get_list, on_revoke_of, withdraw_of}
+use Rattle.parties.proofs.Accounts.{account_stays, account_exchanged, another_account, as_many_accounts}
 use Rattle.system.specs.Setup.{Setup, Sound, Collides, rules_of}
-use Rattle.system.specs.Runs.{Sealed, Place, State, with_authority, signing, hashing, authority_does, response_texts, AuthorityAwake, Found, step}
+use Rattle.system.specs.Runs.{Sealed, State, with_authority, signing, hashing, authority_does, response_texts, AuthorityAwake, Found, step}
 use Rattle.system.specs.Runs.Sealed.{SealedCertificate}
 use Rattle.system.specs.Runs.Move.{Order as OrderMove, Published, Revoke, Withdraw, GetList}
 use Rattle.system.specs.Stands.{order_of, SealedStands, PlaceStands, AuthorityStands, Stands, Reaches}
-use Rattle.system.proofs.Adding.{authority_more}
-use Rattle.system.proofs.Framing.{also, Parts, parts_more, quiet_log, quiet_issued, quiet_revoked, heard_with, unchanged, orders_log, orders_authority, issued_log, issued_authority, revokes_log, revokes_authority}
+use Rattle.system.proofs.Framing.{also, parts_more, quiet_log, quiet_issued, quiet_revoked, heard_with, unchanged, orders_log, orders_authority, issued_log, issued_authority, revokes_log, revokes_authority}
 use Rattle.system.proofs.Logs.{update_one, update_two}
 use Rattle.system.proofs.Digests.{same_bytes_lem}
 use Rattle.system.proofs.Faults.{some_none, same_some, no_first, no_more, unless_both}

@@ -1,5 +1,5 @@
 -- Time passes; owners ask, and publish. Assumes nothing.
-use Rattle.std.proofs.Common.{◌≡◌, ℕ, suc, ◌+◌, ◌^◌, ◌<◌, ◌≤◌, true, ◌⊎◌, List, [], ◌∷◌, length, sym, refl, ap, ◌∙◌, subst, inl, inr, le_refl, arith}
+use Rattle.std.proofs.Common.{◌≡◌, ℕ, suc, ◌+◌, ◌^◌, ◌<◌, [], ◌∷◌, length, sym, refl, ap, subst, inl, inr, le_refl, arith}
 use mathlib.Core.List.Memᴰ
 use Rattle.model.specs.Lists.{◌∈◌}
 use Rattle.model.specs.Objects.{Wish, Response}
@@ -11,7 +11,7 @@ use Rattle.model.specs.Rules.Steps.{onward}
 use Rattle.system.specs.Setup.{Setup, rules_of}
 use Rattle.system.specs.Runs.{Place, State, passed, wanting, publishing, hashing}
 use Rattle.system.specs.Stands.{Stands, PlaceStands, Reaches}
-use Rattle.system.proofs.Framing.{also, Parts, parts_more, quiet_log, quiet_issued, quiet_revoked, heard_with, unchanged, tick_log, tick_authority, asks_log, asks_authority, publishes_log, publishes_authority}
+use Rattle.system.proofs.Framing.{also, parts_more, quiet_log, quiet_issued, quiet_revoked, heard_with, unchanged, tick_log, tick_authority, asks_log, asks_authority, publishes_log, publishes_authority}
 
 module _ (S : Setup) {s : State} {w : World} {k : ℕ} (run : Steps (rules_of S) k start w) (st : Stands S s w) where
   pub time_passes : Reaches S (passed s)

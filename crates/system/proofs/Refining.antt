@@ -1,18 +1,17 @@
 -- Every run stands for a run of the model, or two texts that were hashed in it collide. Assumes nothing.
-use Rattle.std.proofs.Common.{◌≡◌, ℕ, zero, suc, Bool, true, false, cond, ◌⊎◌, List, [], ◌∷◌, ◌++◌, Some, None, Option, sym, refl, ◌∙◌, inl, inr, arith}
+use Rattle.std.proofs.Common.{◌≡◌, ℕ, zero, suc, ◌⊎◌, [], None, sym, refl, ◌∙◌, inl, inr, arith}
 use mathlib.Core.List.Memᴰ
 use Rattle.merkle_theory.proofs.RootTells.{collision_within}
-use Rattle.model.specs.Lists.{◌∈◌}
 use Rattle.model.specs.World.{start}
 use Rattle.model.specs.Rules.Steps.{here}
 use Rattle.wire_theory.specs.Bytes.{Bytes}
 use Rattle.parties.specs.Authority.{account_of}
 use Rattle.parties.specs.Monitor.{with_name}
 use Rattle.system.specs.Setup.{Setup, Sound, Collides}
-use Rattle.system.specs.Runs.{State, Move, step, Allowed, begin, Run}
+use Rattle.system.specs.Runs.{State, Move, step, Allowed, begin}
 use Rattle.system.specs.Runs.Move.{Passes, Want, Publish, WakeAuthority, Order, Published, Revoke, Withdraw, GetList, WakeLog, Submit, GetHead, WakeMonitor, Take, Bring, WakeRelying, GiveList, Present, Settle}
 use Rattle.system.specs.Runs.Run.{at_first, after}
-use Rattle.system.specs.Stands.{Within, Stands, Reaches, Refines}
+use Rattle.system.specs.Stands.{Within, Reaches, Refines}
 use Rattle.system.proofs.Faults.{some_none}
 use Rattle.system.proofs.Owners.{time_passes, owner_asks, owner_publishes}
 use Rattle.system.proofs.Logs.{log_wakes}

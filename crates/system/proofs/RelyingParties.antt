@@ -1,11 +1,11 @@
 -- A relying party wakes, gets lists, accepts, and learns what became of its promises. Assumes nothing.
-use Rattle.std.proofs.Common.{◌≡◌, ℕ, zero, suc, ◌+◌, ◌^◌, ◌<◌, ◌≤◌, Bool, true, false, cond, not, ◌&&◌, ◌||◌, eqb, ltb, ◌⊎◌, List, [], ◌∷◌, ◌++◌, Some, None, Option, sym, refl, ap, ◌∙◌, subst, inl, inr, true≢false, le_refl, arith}
+use Rattle.std.proofs.Common.{◌≡◌, ℕ, zero, suc, ◌+◌, ◌^◌, ◌<◌, ◌≤◌, true, false, ◌||◌, eqb, ltb, ◌⊎◌, List, [], ◌∷◌, Some, None, Option, sym, refl, ◌∙◌, subst, inl, inr, true≢false, le_refl, arith}
 use mathlib.Core.List.Memᴰ
 use Rattle.std.proofs.lemmas.Bool.{cond_both, cases_Bool, eqb-false, ltb-false, leb-true, leb-false, lt-leb, eq-eqb, not-false, not-true, and_parts, or_parts}
 use Rattle.model.specs.Lists.{◌∈◌}
-use Rattle.model.specs.Objects.{Certificate, Sct, RevocationList}
-use Rattle.model.specs.Objects.Signed.{Issued, Promised, Listed}
-use Rattle.model.specs.World.{Event, World, start, apply, update}
+use Rattle.model.specs.Objects.{Certificate}
+use Rattle.model.specs.Objects.Signed.{Issued, Promised}
+use Rattle.model.specs.World.{World, start, apply}
 use Rattle.model.specs.World.Event.{Signs, Accepts}
 use Rattle.model.specs.Rules.{Steps}
 use Rattle.model.specs.Rules.Steps.{onward}
@@ -13,7 +13,7 @@ use Rattle.wire_theory.specs.Bytes.{Bytes}
 use Rattle.wire_theory.specs.Messages.{SignedSct, SignedList, MonitorAnswer}
 use Rattle.parties.specs.Coding.{leaf_text, leaf_of, right_certificate, right_sct, right_list}
 use Rattle.parties.specs.Steps.{first_fault, unless, too_large}
-use Rattle.parties.specs.RelyingParty.{Kept, RelyingView, is_news, with_list, is_fresh, is_for, has_serial, faults_of_presented, keeping, accepts_by, settles, settles_at, Which}
+use Rattle.parties.specs.RelyingParty.{Kept, RelyingView, is_news, with_list, is_fresh, is_for, has_serial, faults_of_presented, keeping, accepts_by, settles_at, Which}
 use Rattle.parties.specs.RelyingParty.Which.{First, Second}
 use Rattle.system.specs.Setup.{Setup, Sound, Collides, rules_of}
 use Rattle.system.specs.Runs.{State, with_relying, hashing, relying_does, Lawful, step}
@@ -21,8 +21,8 @@ use Rattle.system.specs.Runs.Sealed.{SealedCertificate, SealedSct, SealedList}
 use Rattle.system.specs.Runs.Move.{WakeRelying, GiveList, Present, Settle}
 use Rattle.system.specs.Stands.{sct_of, list_of, acceptance_of, Texted, SctStands, ListStands, SctKept, KeptStands, Stands, Reaches}
 use Rattle.system.proofs.Adding.{texted_more}
-use Rattle.system.proofs.Framing.{also, Parts, parts_more, quiet_log, quiet_issued, quiet_revoked, heard_more, heard_with, unchanged, accepts_log, accepts_authority}
-use Rattle.system.proofs.Inserting.{Further, Has, not_both, have_issued, have_promised, have_listed}
+use Rattle.system.proofs.Framing.{also, parts_more, quiet_log, quiet_issued, quiet_revoked, heard_more, heard_with, unchanged, accepts_log, accepts_authority}
+use Rattle.system.proofs.Inserting.{Has, not_both, have_issued, have_promised, have_listed}
 use Rattle.system.proofs.Logs.{update_one}
 use Rattle.system.proofs.Digests.{same_bytes_lem, one_certificate}
 use Rattle.system.proofs.Faults.{no_first, no_more, unless_both}

@@ -1,23 +1,22 @@
 -- A monitor takes every head that an honest log signs. Assumes nothing.
-use Rattle.std.proofs.Common.{◌≡◌, ℕ, ◌^◌, ◌<◌, ◌≤◌, Bool, true, false, cond, not, ◌&&◌, ◌||◌, eqb, ltb, ◌⊎◌, List, [], ◌∷◌, ◌++◌, map, length, take, drop, Some, None, Option, sym, refl, ap, ◌∙◌, subst, inl, inr, suc-le-suc, zero-le, arith}
+use Rattle.std.proofs.Common.{◌≡◌, ℕ, ◌^◌, ◌<◌, ◌≤◌, Bool, true, false, cond, eqb, List, [], ◌∷◌, ◌++◌, length, take, drop, Some, None, sym, refl, ap, ◌∙◌, subst, inl, inr, suc-le-suc, zero-le, arith}
 use mathlib.Core.List.{map-append}
 use lib.ListN.{length-map}
 use Rattle.std.proofs.lemmas.Bool.{cases_lt, le-ltb, lt-leb, eq-eqb, and_from, or_right, or_left, not_from_true}
 use Rattle.merkle_theory.specs.Bytes.{over_leaves}
-use Rattle.merkle_theory.specs.Tree.{Roots, root, consistency, roots_from_consistency}
+use Rattle.merkle_theory.specs.Tree.{roots_from_consistency}
 use Rattle.merkle_theory.proofs.There.{consistency-there}
-use Rattle.model.specs.Lists.{◌∈◌, Begins}
-use Rattle.model.specs.Objects.{Certificate, TreeHead}
+use Rattle.model.specs.Objects.{Certificate}
 use Rattle.model.specs.Rules.{Extends}
 use Rattle.wire_theory.specs.Bytes.{Bytes}
 use Rattle.wire_theory.specs.Messages.{SignedHead}
-use Rattle.parties.specs.Coding.{same_bytes, leaf_of, leaves_of, root_of, node_of, right_head}
-use Rattle.parties.specs.Steps.{Fault, first_fault, too_large}
+use Rattle.parties.specs.Coding.{leaf_of, leaves_of, root_of, node_of}
+use Rattle.parties.specs.Steps.{Fault, first_fault}
 use Rattle.parties.specs.Log.{LogView, head_of}
 use Rattle.parties.specs.Evidence.{gives_root}
 use Rattle.parties.specs.Monitor.{Seen, Fetched, digests_with, goes_on, leads_to_both, faults_of, tick_of}
 use Rattle.parties.proofs.Compared.{same_from}
-use Rattle.system.specs.Setup.{Setup, Sound, rules_of}
+use Rattle.system.specs.Setup.{Setup, Sound}
 use Rattle.system.specs.Runs.{State}
 use Rattle.system.specs.Stands.{head_of as worldHead, Reaches}
 use Rattle.system.specs.Assured.{OfEveryRun, HeadIsTaken, answers_of}

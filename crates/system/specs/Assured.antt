@@ -1,5 +1,5 @@
 -- What is so of every run, in the parties' own terms; or two texts that were hashed in it collide. Assumes nothing.
-use Rattle.std.specs.Prelude.{◌≡◌, ℕ, ◌+◌, ◌^◌, ◌<◌, ◌≤◌, true, ◌⊎◌, List, [], ◌∷◌, ◌++◌, length, drop, Some, None, Option}
+use Rattle.std.specs.Prelude.{◌≡◌, ℕ, ◌+◌, ◌^◌, ◌<◌, ◌≤◌, true, ◌⊎◌, List, [], ◌∷◌, ◌++◌, length, drop, Some, None}
 use Rattle.merkle_theory.specs.Bytes.{over_leaves}
 use Rattle.merkle_theory.specs.Tree.{consistency}
 use Rattle.model.specs.Lists.{◌∈◌}

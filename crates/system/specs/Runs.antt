@@ -8,7 +8,7 @@ use Rattle.wire_theory.specs.Bytes.{Bytes}
 use Rattle.wire_theory.specs.Messages.{Message, MonitorAnswer, SignedSct, SignedHead, SignedList}
 use Rattle.wire_theory.specs.Messages.Message.{certificate, sct, head, list, order, challenge, published, submit, get_head, get_inclusion, get_consistency, get_entries, revoke, get_list, bring, present, inclusion, consistency, entries, answer, accepted, refused}
 use Rattle.parties.specs.Coding.{leaf_text, leaves_of, root_texts_of, right_certificate, right_sct, right_head, right_list}
-use Rattle.parties.specs.Steps.{Step, Tick}
+use Rattle.parties.specs.Steps.{Step}
 use Rattle.parties.specs.Authority.{Account, AuthorityView, new_authority, account_of, on_order, on_published, on_revoke, withdraw, on_get_list}
 use Rattle.parties.specs.Authority
 use Rattle.parties.specs.Log.{LogView, new_log, on_submit, on_get_head}

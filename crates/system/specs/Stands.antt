@@ -1,6 +1,6 @@
 -- For which worlds of the model a state of all parties stands; and the theorem: every run reaches a state that stands for a world that the model reaches, or two texts that were hashed in it
 -- collide. Assumes nothing.
-use Rattle.std.specs.Prelude.{◌≡◌, ℕ, ◌^◌, ◌<◌, ◌≤◌, true, false, ◌⊎◌, List, [], ◌∷◌, length, Some, None, Option}
+use Rattle.std.specs.Prelude.{◌≡◌, ℕ, ◌^◌, ◌<◌, ◌≤◌, true, false, ◌⊎◌, List, length, Some, None, Option}
 use Rattle.model.specs.Lists.{◌∈◌}
 use Rattle.model.specs.Objects.{Certificate, Wish, Order, Response, Sct, TreeHead, RevocationList, Revocation, Acceptance}
 use Rattle.model.specs.Objects.Signed.{Issued, Promised, Headed, Listed}
@@ -16,7 +16,7 @@ use Rattle.parties.specs.Evidence.{gives_root}
 use Rattle.parties.specs.Authority.{Account, AuthorityView, next_serial, account_of}
 use Rattle.parties.specs.Log.{LogView}
 use Rattle.parties.specs.Monitor.{Seen, tick_of, with_name}
-use Rattle.parties.specs.RelyingParty.{Kept, RelyingView}
+use Rattle.parties.specs.RelyingParty.{Kept}
 use Rattle.system.specs.Setup.{Setup, Sound, Collides, rules_of}
 use Rattle.system.specs.Runs.{Sealed, Place, State, Run}
 use Rattle.system.specs.Runs.Sealed.{SealedCertificate, SealedSct, SealedHead, SealedList}

@@ -1,5 +1,7 @@
 // Every run of the parties over any network is a run of the model, or two texts that were hashed in it collide; and so what is guaranteed holds in the parties' own terms.
 // No code: each function's contract names one theorem.
+#![tactic(auto)]
+
 ghost use Rattle.system.specs.Assured.{AcceptedIsSeen, AcceptedWasIssued, HeadIsTaken, HonestIsSeen, IssuedWasAskedFor, NeverConvicted, OfEveryRun, OneCertificate, RevokedIsNotAccepted};
 ghost use Rattle.system.specs.Stands.{Refines};
 

@@ -1,4 +1,6 @@
 // Runs published test vectors, of SHA-256 and of the Merkle tree, and compares each with what was published.
+#![tactic(auto)]
+
 mod hash_vectors;
 mod tally;
 mod tree_vectors;

@@ -1,4 +1,6 @@
 // The messages as they are sent: their types, and a reader that takes any bytes.
+#![tactic(auto)]
+
 mod certificate;
 mod evidence;
 mod field;

@@ -1,5 +1,7 @@
 // Reader and writer together: what is written is read, and what was read is written. No code: each function's contract names one theorem,
 // on the contracts of `read` and `write`.
+#![tactic(auto)]
+
 ghost use Rattle.wire_binding.specs.Back.{ReadsBack, WritesBack};
 
 // Bytes that are written of a message are read as that message.

@@ -1,5 +1,7 @@
 // Cuts every example at every length and changes every byte of it in several ways, reads each, and writes what was read again. What
 // is printed is compared with what another program made of the formats counts.
+#![tactic(auto)]
+
 mod examples;
 mod tally;
 mod worst;

@@ -1,4 +1,6 @@
 // The messages and their bytes as definitions, with the theorems about them. No code: each function's contract names one theorem.
+#![tactic(auto)]
+
 ghost use Rattle.wire_theory.specs.Claims.{Canonical, DecodesBack, EachShaped, EvidenceCanonical, LeafTextsApart, SettingsCanonical, SignedApart};
 
 // What is written is read as what it was.

@@ -1,4 +1,6 @@
 // Writes messages: exactly the bytes that the definitions give, or nothing.
+#![tactic(auto)]
+
 mod keep;
 mod owned;
 mod put;

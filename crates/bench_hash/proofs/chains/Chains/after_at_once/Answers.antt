@@ -1,4 +1,4 @@
-use Rattle.std.proofs.Common.{◌≡◌, sym, ap, ◌∙◌, add-one}
+use Rattle.std.proofs.Common.{sym, ap, ◌∙◌, add-one}
 use Rattle.bench_hash.specs.Steps.{stepped, times}
 use Rattle.bench_hash.proofs.chains.Chains.after_at_once.Goals as goal
 
