@@ -3,7 +3,7 @@ use Rattle.std.proofs.Common.{◌≡◌, ℕ, ◌<◌, true, List, map, length, 
 use mathlib.Core.List.{map-map}
 use lib.ListN.{length-map}
 use Rattle.std.specs.Option.{option_map}
-use Rattle.std.specs.List.{AllByRecursion as All}
+use Rattle.std.specs.List.{AllByRecursion}
 use Rattle.std.proofs.ByRecursion.{All-map}
 use Rattle.std.proofs.lemmas.List.{map-id, get_or-map, take-map}
 use Rattle.sha256.specs.Standard.{digest}
@@ -47,7 +47,7 @@ back_from_bytes ds = map-map of_bytes bytes_of ds ∙ map-id ds
 pub same_digests : (cs ds : List Digest) → all_bytes cs ≡ all_bytes ds → cs ≡ ds
 same_digests cs ds e = sym (back_from_bytes cs) ∙ (ap (map of_bytes) e ∙ back_from_bytes ds)
 
-pub all_long : (ds : List Digest) → All Sized ds → All Long (all_bytes ds)
+pub all_long : (ds : List Digest) → AllByRecursion Sized ds → AllByRecursion Long (all_bytes ds)
 all_long = All-map Long bytes_of
 
 pub stands_by_bytes : (ds : List Digest) (m : ℕ) (d : Digest) → Stands (all_bytes ds) m d.bytes → Stands ds m d

@@ -1,6 +1,6 @@
 -- What a path and a consistency proof tell, or else two texts that collide: for the tree over entries and over leaf digests.
 use Rattle.std.proofs.Common.{◌≡◌, ℕ, ◌-◌, ◌<◌, ◌≤◌, Bool, true, false, ◌⊎◌, List, [], ◌∷◌, ◌++◌, length, take, sym, ap, ◌∙◌, subst, ap₂, inl, arith, take-append-drop}
-use Rattle.std.specs.List.{AllByRecursion as All}
+use Rattle.std.specs.List.{AllByRecursion}
 use Rattle.std.proofs.ByRecursion.{All-take, All-drop}
 use Rattle.std.proofs.lemmas.List.{take_all, take-take}
 use Rattle.merkle_theory.specs.Tree.{split, root, path}
@@ -20,7 +20,7 @@ use Rattle.merkle_theory.proofs.RootTells.{seen_more, top_good, root-tells}
 
 module _ {A B D X : Type 0} (t : Texts B D X) (leaf : A → Traced D X) (Good : D → Type 0) (Fit : A → Type 0) (law : Lawful t Good) (leaves : Leaves t leaf Good Fit) (ts : List X) where
   -- a node of a list's root is over the roots of its sides
-  sides_tell : (a b : Traced D X) → Good a.digest → Good b.digest → (xs : List A) → 2 ≤ length xs → All Fit xs → ((tracing t leaf).node a b).digest ≡ top t leaf xs →
+  sides_tell : (a b : Traced D X) → Good a.digest → Good b.digest → (xs : List A) → 2 ≤ length xs → AllByRecursion Fit xs → ((tracing t leaf).node a b).digest ≡ top t leaf xs →
       Within ((tracing t leaf).node a b).hashed ts → Within (seen t leaf xs) ts → ((a.digest ≡ top t leaf (left_side xs)) × (b.digest ≡ top t leaf (right_side xs))) ⊎ Collision t ts
   sides_tell a b ga gb xs two fx e w v =
       let k = split (length xs) in
@@ -43,7 +43,7 @@ module _ {A B D X : Type 0} (t : Texts B D X) (leaf : A → Traced D X) (Good : 
   leaf_tells x xs (more zs two) l e w v = absurd (omega arith)
 
   pub path-tells : (x : A) → Fit x → {n m : ℕ} {ps : List (Traced D X)} {r : Traced D X} → Climbs (tracing t leaf).node (leaf x) n m ps r →
-      (xs : List A) → length xs ≡ n → All Fit xs → All (λ (p : Traced D X). Good p.digest) ps →
+      (xs : List A) → length xs ≡ n → AllByRecursion Fit xs → AllByRecursion (λ (p : Traced D X). Good p.digest) ps →
       r.digest ≡ top t leaf xs → Within r.hashed ts → Within (seen t leaf xs) ts →
       (Stands xs m x × (digests_of t leaf ps ≡ digests_of t leaf (path (tracing t leaf) m xs))) ⊎ Collision t ts
   path-tells x f at_leaf xs l fx gs e w v = leaf_tells x xs (shape xs) l e w v
@@ -70,21 +70,21 @@ module _ {A B D X : Type 0} (t : Texts B D X) (leaf : A → Traced D X) (Good : 
       inl (stands_if_behind k xs m x (omega arith) s, ap₂ ◌∷◌ a same ∙ ap (digests_of t leaf) (sym (path_in_right (tracing t leaf) m xs here (omega arith))))))
 
   joins_good : {old : Traced D X} → Good old.digest → {m n : ℕ} {whole : Bool} {ps : List (Traced D X)} {e l : Traced D X} →
-      Joins (tracing t leaf).node old m n whole ps e l → All (λ (p : Traced D X). Good p.digest) ps → Good e.digest × Good l.digest
+      Joins (tracing t leaf).node old m n whole ps e l → AllByRecursion (λ (p : Traced D X). Good p.digest) ps → Good e.digest × Good l.digest
   joins_good g at_whole gs = (g, g)
   joins_good g at_part gs = (gs.0, gs.0)
   joins_good g (ends_left s h down) gs = ((joins_good g down gs.1).0, law.good _)
   joins_good g (ends_right s h down) gs = (law.good _, law.good _)
 
   -- two lists of one length, both with the root d
-  same_root_tells : (d : Traced D X) (xs ys : List A) → length xs ≡ length ys → All Fit xs → All Fit ys → d.digest ≡ top t leaf xs → d.digest ≡ top t leaf ys →
+  same_root_tells : (d : Traced D X) (xs ys : List A) → length xs ≡ length ys → AllByRecursion Fit xs → AllByRecursion Fit ys → d.digest ≡ top t leaf xs → d.digest ≡ top t leaf ys →
       Within (seen t leaf xs) ts → Within (seen t leaf ys) ts → (xs ≡ ys) ⊎ Collision t ts
   same_root_tells d xs ys l fx fy e f w v = root-tells t leaf Good Fit law leaves ts xs ys fx fy (inl l) (sym e ∙ f) w v
 
   -- ys begins with xs, and the proof is the one from there
   pub consistency-tells : {old : Traced D X} → Good old.digest → {m n : ℕ} {whole : Bool} {ps : List (Traced D X)} {e l : Traced D X} →
       Joins (tracing t leaf).node old m n whole ps e l →
-      (xs ys : List A) → length xs ≡ m → length ys ≡ n → 0 < m → All Fit xs → All Fit ys → All (λ (p : Traced D X). Good p.digest) ps →
+      (xs ys : List A) → length xs ≡ m → length ys ≡ n → 0 < m → AllByRecursion Fit xs → AllByRecursion Fit ys → AllByRecursion (λ (p : Traced D X). Good p.digest) ps →
       e.digest ≡ top t leaf xs → l.digest ≡ top t leaf ys →
       Within e.hashed ts → Within l.hashed ts → Within (seen t leaf xs) ts → Within (seen t leaf ys) ts →
       ((xs ≡ take m ys) × (digests_of t leaf ps ≡ digests_of t leaf (consistency_from (tracing t leaf) m whole ys))) ⊎ Collision t ts

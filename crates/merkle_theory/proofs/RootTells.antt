@@ -2,7 +2,7 @@
 use Rattle.std.proofs.Common.{◌≡◌, ℕ, ◌-◌, ◌≤◌, ◌⊎◌, List, [], ◌∷◌, ◌++◌, length, sym, refl, ap, ◌∙◌, subst, ap₂, inl, inr, arith, take-append-drop}
 use mathlib.Core.List.Memᴰ
 use mathlib.Core.List.{Memᴰ}
-use Rattle.std.specs.List.{AllByRecursion as All}
+use Rattle.std.specs.List.{AllByRecursion}
 use Rattle.std.proofs.ByRecursion.{All-take, All-drop}
 use Rattle.merkle_theory.specs.Tree.{split, root}
 use Rattle.merkle_theory.specs.Laws.{left_side, right_side}
@@ -37,7 +37,7 @@ collision_within w c = record { one = c.one; other = c.other; one_in = w c.one c
 abbrev pub Any : {X : Type 0} → X → Type 0
 Any x = Unit {0}
 
-pub any : {X : Type 0} (xs : List X) → All Any xs
+pub any : {X : Type 0} (xs : List X) → AllByRecursion Any xs
 any [] = tt
 any (x ∷ xs) = (tt, any xs)
 
@@ -129,12 +129,12 @@ module _ {A B D X : Type 0} (t : Texts B D X) (leaf : A → Traced D X) where
 -- two lists of one root, equally long or with leaves that are apart, are one list, or else two texts collide
 abbrev Tells : {A B D X : Type 0} (t : Texts B D X) (leaf : A → Traced D X) (Fit : A → Type 0) (ts : List X) → List A → List A → Type 0
 Tells t leaf Fit ts xs ys =
-    All Fit xs → All Fit ys → (length xs ≡ length ys) ⊎ Apart t leaf → top t leaf xs ≡ top t leaf ys → Within (seen t leaf xs) ts → Within (seen t leaf ys) ts →
+    AllByRecursion Fit xs → AllByRecursion Fit ys → (length xs ≡ length ys) ⊎ Apart t leaf → top t leaf xs ≡ top t leaf ys → Within (seen t leaf xs) ts → Within (seen t leaf ys) ts →
     (xs ≡ ys) ⊎ Collision t ts
 
 module _ {A B D X : Type 0} (t : Texts B D X) (leaf : A → Traced D X) (Good : D → Type 0) (Fit : A → Type 0) (law : Lawful t Good) (leaves : Leaves t leaf Good Fit) (ts : List X) where
-  pub top_good : (xs : List A) → All Fit xs → Good (top t leaf xs)
-  top_good xs f = elim (shape xs) as (λ zs s. All Fit zs → Good (top t leaf zs)) [
+  pub top_good : (xs : List A) → AllByRecursion Fit xs → Good (top t leaf xs)
+  top_good xs f = elim (shape xs) as (λ zs s. AllByRecursion Fit zs → Good (top t leaf zs)) [
     | none ↦ λ f. subst Good (sym (top_none t leaf)) (law.good t.empty)
     | one x ↦ λ f. subst Good (sym (top_one t leaf x)) (leaves.good_leaf x f.0)
     | more zs two ↦ λ f. subst Good (sym (top_more t leaf zs two)) (law.good _)

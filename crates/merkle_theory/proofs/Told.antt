@@ -1,7 +1,7 @@
 -- What roots and proofs of digests without texts tell, or else two of the texts that are hashed for them collide.
 use Rattle.std.proofs.Common.{◌≡◌, ℕ, ◌<◌, true, ◌⊎◌, List, ◌++◌, map, length, Option, sym, refl, ap, ◌∙◌, subst, inl, inr}
 use mathlib.Core.List.Memᴰ
-use Rattle.std.specs.List.{AllByRecursion as All}
+use Rattle.std.specs.List.{AllByRecursion}
 use Rattle.std.proofs.ByRecursion.{All-map}
 use Rattle.merkle_theory.specs.Tree.{Roots, root, path, consistency, root_from_path, roots_from_consistency, PathLeads, ConsistencyLeads}
 use Rattle.merkle_theory.specs.Claims.{Stands, Begins}
@@ -20,16 +20,16 @@ within_behind : {X : Type 0} (us vs : List X) → Within vs (us ++ vs)
 within_behind us vs u = Memᴰ.append_right us
 
 module _ {A B D X : Type 0} (t : Texts B D X) (leaf : A → Traced D X) (Good : D → Type 0) (Fit : A → Type 0) (law : Lawful t Good) (leaves : Leaves t leaf Good Fit) where
-  good_outside : (ps : List D) → All Good ps → All (λ (p : Traced D X). Good p.digest) (map outside ps)
+  good_outside : (ps : List D) → AllByRecursion Good ps → AllByRecursion (λ (p : Traced D X). Good p.digest) (map outside ps)
   good_outside = All-map (λ (p : Traced D X). Good p.digest) outside
 
-  root_told : (xs ys : List A) → All Fit xs → All Fit ys → (length xs ≡ length ys) ⊎ Apart t leaf → root (untraced t leaf) xs ≡ root (untraced t leaf) ys →
+  root_told : (xs ys : List A) → AllByRecursion Fit xs → AllByRecursion Fit ys → (length xs ≡ length ys) ⊎ Apart t leaf → root (untraced t leaf) xs ≡ root (untraced t leaf) ys →
       (xs ≡ ys) ⊎ Collision t (seen t leaf xs ++ seen t leaf ys)
   root_told xs ys fx fy apart e =
       root-tells t leaf Good Fit law leaves (seen t leaf xs ++ seen t leaf ys) xs ys fx fy apart (sym (root_traced t leaf xs) ∙ (e ∙ root_traced t leaf ys))
       (within_front (seen t leaf xs) (seen t leaf ys)) (within_behind (seen t leaf xs) (seen t leaf ys))
 
-  path-told : (xs : List A) (m : ℕ) (x : A) (ps : List D) → All Fit xs → Fit x → All Good ps →
+  path-told : (xs : List A) (m : ℕ) (x : A) (ps : List D) → AllByRecursion Fit xs → Fit x → AllByRecursion Good ps →
       PathLeads (untraced t leaf).node (length xs) m (leaf x).digest ps (root (untraced t leaf) xs) →
       (Stands xs m x × (ps ≡ path (untraced t leaf) m xs)) ⊎
       Collision t (seen t leaf xs ++ hashed_for (root_from_path (tracing t leaf).node (length xs) m (leaf x) (map outside ps)))
@@ -44,7 +44,7 @@ module _ {A B D X : Type 0} (t : Texts B D X) (leaf : A → Traced D X) (Good : 
       (within_front us vs))
       (λ (s, path-is). inl (s, sym (digests_of_outside t leaf ps) ∙ (path-is ∙ sym (path_traced t leaf m xs))))
 
-  consistency-told : (xs ys : List A) (ps : List D) → 0 < length xs → All Fit xs → All Fit ys → All Good ps →
+  consistency-told : (xs ys : List A) (ps : List D) → 0 < length xs → AllByRecursion Fit xs → AllByRecursion Fit ys → AllByRecursion Good ps →
       ConsistencyLeads (untraced t leaf).node (length xs) (length ys) (root (untraced t leaf) xs) (root (untraced t leaf) ys) ps →
       (Begins xs ys × (ps ≡ consistency (untraced t leaf) (length xs) ys)) ⊎
       Collision t (seen t leaf xs ++ (seen t leaf ys ++

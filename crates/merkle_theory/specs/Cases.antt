@@ -1,6 +1,6 @@
 -- Worked cases: the tree of seven entries, 0 to 6, with terms for digests. Assumes nothing.
 use Rattle.std.specs.Prelude.{◌≡◌, ℕ, List, [], ◌∷◌}
-use Rattle.std.specs.List.{AllByRecursion as All}
+use Rattle.std.specs.List.{AllByRecursion}
 use Rattle.merkle_theory.specs.Tree.{root, path, consistency}
 use Rattle.merkle_theory.specs.Terms.{Term, over_terms}
 use Rattle.merkle_theory.specs.Terms.Term.{Leaf, Node}
@@ -46,4 +46,4 @@ table =
     []))
 
 abbrev pub CasesHold : Type 0
-CasesHold = All (λ (r : Row). answer r.asked ≡ r.expected) table
+CasesHold = AllByRecursion (λ (r : Row). answer r.asked ≡ r.expected) table

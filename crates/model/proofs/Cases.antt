@@ -11,7 +11,7 @@ use Rattle.model.specs.World.Event.{Tick, Signs}
 use Rattle.model.specs.Rules.{Rules, May, Steps, IsRevoked, insert, serials_of}
 use Rattle.model.specs.Rules.Asked.{by_order}
 use Rattle.model.specs.Rules.Steps.{here, onward}
-use Rattle.std.specs.List.{AllByRecursion as All}
+use Rattle.std.specs.List.{AllByRecursion}
 use Rattle.model.specs.Cases.{Move, ticks, later, played, Holds, Case, CaseHolds, astrid, promise, due_at_ten, hidden_until_heads, hidden, order, until_revocation, from_revocation, revoked, CasesHold}
 use Rattle.model.specs.Cases.Move.{Do, Wait}
 use Rattle.model.proofs.Growth.{happened_is_revoked}
@@ -40,7 +40,7 @@ plays r w [] m = (0, here)
 plays r w (Do e ∷ ms) m = let (k, s) = plays r (apply w e) ms m.1 in joined (onward here e m.0) s
 plays r w (Wait n ∷ ms) m = let (j, t) = waits r n w in let (k, s) = plays r (later n w) ms m in joined t s
 
-case_holds : (c : Case) → may_play c.rules start c.moves → All (Holds c.rules (played start c.moves)) c.claims → CaseHolds c
+case_holds : (c : Case) → may_play c.rules start c.moves → AllByRecursion (Holds c.rules (played start c.moves)) c.claims → CaseHolds c
 case_holds c m claims = let (k, s) = plays c.rules start c.moves m in record { events = k; run = s; claims = claims }
 
 may_play_on : (r : Rules) (w : World) (ms ns : List Move) → may_play r w ms → may_play r (played w ms) ns → may_play r w (ms ++ ns)

@@ -1,6 +1,6 @@
 -- Worked cases, as runs of the model: when a promise convicts, a log that hides a false certificate, and a revocation. Assumes nothing.
 use Rattle.std.specs.Prelude.{ℕ, zero, suc, ◌+◌, Bool, false, List, [], ◌∷◌, ◌++◌, codes, ◌==◌}
-use Rattle.std.specs.List.{AllByRecursion as All}
+use Rattle.std.specs.List.{AllByRecursion}
 use Rattle.model.specs.Lists.{◌∈◌}
 use Rattle.model.specs.Objects.{Certificate, Order, Sct, TreeHead, RevocationList, Acceptance}
 use Rattle.model.specs.Objects.Signed.{Issued, Promised, Headed, Listed}
@@ -52,7 +52,7 @@ pub record Case : Type 0 where
 pub record CaseHolds (c : Case) : Type 0 where
   pub events : ℕ
   pub run : Steps c.rules events start (played start c.moves)
-  pub claims : All (Holds c.rules (played start c.moves)) c.claims
+  pub claims : AllByRecursion (Holds c.rules (played start c.moves)) c.claims
 
 abbrev pub nobody : ℕ → Bool
 nobody i = false
@@ -124,4 +124,4 @@ abbrev pub table : List Case
 table = due_at_ten ∷ (hidden ∷ (revoked ∷ []))
 
 abbrev pub CasesHold : Type 0
-CasesHold = All CaseHolds table
+CasesHold = AllByRecursion CaseHolds table

@@ -1,6 +1,6 @@
 -- Worked cases: what is published is of another key; and when a promise convicts. Assumes nothing.
 use Rattle.std.specs.Prelude.{◌≡◌, ℕ, true, List, [], ◌∷◌, ◌++◌, replicate, Some, None, codes}
-use Rattle.std.specs.List.{AllByRecursion as All}
+use Rattle.std.specs.List.{AllByRecursion}
 use Rattle.wire_theory.specs.Bytes.{Bytes}
 use Rattle.wire_theory.specs.Messages.{Message, SignedSct, SignedHead, Settings}
 use Rattle.wire_theory.specs.Messages.Message.{certificate, order, published, refused}
@@ -62,4 +62,4 @@ cases =
     (Judged 100 109 (NotSo 2) ∷ (Judged 100 110 Convicts ∷ [])))
 
 abbrev pub CasesHold : Type 0
-CasesHold = All Holds cases
+CasesHold = AllByRecursion Holds cases

@@ -1,7 +1,7 @@
 -- What was done tells of the texts that were entered. Assumes nothing.
 use Rattle.std.proofs.Common.{◌≡◌, ℕ, ◌≤◌, ◌⊎◌, List, [], ◌∷◌, ◌++◌, length, take, Ok, Err, vec_items, Result, Vec, sym, ap, ◌∙◌, subst, inl, inr, ⊎_elim, append-nil, arith, length-take-le, Bor, MatchResult}
 use lib.ListN.{length-map}
-use Rattle.std.specs.List.{AllByRecursion as All}
+use Rattle.std.specs.List.{AllByRecursion}
 use Rattle.std.specs.declared.alloc.Global.{Global}
 use Rattle.std.proofs.lemmas.List.{map-append, take-map}
 use Rattle.merkle_theory.specs.Bytes.{Bytes}
@@ -21,7 +21,7 @@ use Rattle.play.specs.declared.answer.Refusal.{Refusal}
 use Rattle.play.specs.Played.{Done, Refuses, grown}
 use Rattle.play.specs.Told.{KeepsTexts, Tells, entered}
 
-told : (ys : List Bytes) (count place : ℕ) (x : Bytes) (ps : List Digest) → length ys ≡ count → All Sized ps → PathLeads node_of count place (leaf_of x) ps (root_of (entries.row_of ys)) →
+told : (ys : List Bytes) (count place : ℕ) (x : Bytes) (ps : List Digest) → length ys ≡ count → AllByRecursion Sized ps → PathLeads node_of count place (leaf_of x) ps (root_of (entries.row_of ys)) →
     Stands ys place x ⊎ Collision by_sha256 (root_texts by_sha256 ys ++ path_texts by_sha256 count place x (all_bytes ps))
 told ys count place x ps e sized leads =
     subst

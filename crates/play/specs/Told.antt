@@ -1,6 +1,6 @@
 -- What a command that was done tells of the texts xs that were entered. Assumes nothing.
 use Rattle.std.specs.Prelude.{◌≡◌, ◌⊎◌, List, [], ◌∷◌, ◌++◌, take, vec_items, Result, MatchResult}
-use Rattle.std.specs.List.{AllByRecursion as All}
+use Rattle.std.specs.List.{AllByRecursion}
 use Rattle.merkle_theory.specs.Bytes.{Bytes}
 use Rattle.merkle_theory.specs.Claims.{Stands}
 use Rattle.merkle_theory.specs.Texts.{Collision, path_texts, root_texts}
@@ -30,7 +30,7 @@ Tells (command.TopOf count) xs = Unit {0}
 Tells (command.Way place count) xs = Unit {0}
 Tells (command.Proof from to) xs = Unit {0}
 Tells (command.Leads place count text path) xs =
-    All Sized (vec_items path) →
+    AllByRecursion Sized (vec_items path) →
     Stands (take count xs) place text.now ⊎
     Collision by_sha256 (root_texts by_sha256 (take count xs) ++ path_texts by_sha256 count place text.now (all_bytes (vec_items path)))
 Tells (command.GoesOn from to proof) xs = Unit {0}

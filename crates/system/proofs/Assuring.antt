@@ -9,7 +9,7 @@ use Rattle.merkle_theory.specs.Digests.{Long}
 use Rattle.merkle_theory.proofs.Digests.{bytes_lawful}
 use Rattle.merkle_theory.proofs.RootTells.{collision_within}
 use Rattle.merkle_theory.proofs.Told.{root-told_of_rows}
-use Rattle.std.specs.List.{AllByRecursion as All}
+use Rattle.std.specs.List.{AllByRecursion}
 use Rattle.model.specs.Objects.{Certificate, Wish, Order, TreeHead}
 use Rattle.model.specs.World.Sender.{Owner, Somebody}
 use Rattle.model.specs.World.Event.{Asks, Orders}
@@ -157,7 +157,7 @@ accepted_is_seen S sound s run k x m p i n late = elim (refines S sound s run) [
 
 -- Never convicted
 
-all_long : (ds : List Bytes) → ((d : Bytes) → d ∈ ds → length d ≡ 32) → All Long ds
+all_long : (ds : List Bytes) → ((d : Bytes) → d ∈ ds → length d ≡ 32) → AllByRecursion Long ds
 all_long [] h = tt
 all_long (d ∷ ds) h = (h d (Memᴰ.head refl), all_long ds (λ x m. h x (Memᴰ.tail m)))
 

@@ -3,7 +3,7 @@ use Rattle.std.proofs.Common.{◌≡◌, ℕ, suc, ◌≤◌, Bool, true, false,
 use mathlib.Core.List.Memᴰ
 use mathlib.Core.List.{map-append}
 use lib.ListN.{length-map}
-use Rattle.std.specs.List.{AllByRecursion as All}
+use Rattle.std.specs.List.{AllByRecursion}
 use Rattle.std.proofs.lemmas.Bool.{cond_both, cond-true, cond-false, eq-eqb, ne_eqb, eqb-true, ltb-false, not-false, and_parts, cases_Bool}
 use Rattle.merkle_theory.specs.Bytes.{texts}
 use Rattle.merkle_theory.specs.Digests.{Long}
@@ -91,7 +91,7 @@ with_name_append name (c ∷ cs) ds = cond_case (same_bytes c.name name) (with_n
     cond_case false e = e
 
 -- leaf digests are long
-pub leaves_long : (S : Setup) → Sound S → (cs : List Certificate) → All Long (leaves_of S.coding cs)
+pub leaves_long : (S : Setup) → Sound S → (cs : List Certificate) → AllByRecursion Long (leaves_of S.coding cs)
 leaves_long S sound [] = tt
 leaves_long S sound (c ∷ cs) = (sound.long (leaf_text S.coding c), leaves_long S sound cs)
 
@@ -156,7 +156,7 @@ module _ (S : Setup) (sound : Sound S) (s : State) (n : ℕ) (v : MonitorView) (
 
         rows : (leaves_of S.coding hs.entries ≡ digests_with S.coding x f.new) ⊎ Collides S us
         rows = elim (root-told_of_rows (texts S.coding.hash) Long (bytes_lawful S.coding.hash sound.long) (leaves_of S.coding hs.entries) (digests_with S.coding x f.new)
-            (leaves_long S sound hs.entries) (subst (All Long) (sym row) (leaves_long S sound all)) lengths roots)
+            (leaves_long S sound hs.entries) (subst (AllByRecursion Long) (sym row) (leaves_long S sound all)) lengths roots)
             [ inl q ↦ inl q | inr z ↦ inr (collision_within within z) ]
 
         lists : leaves_of S.coding hs.entries ≡ digests_with S.coding x f.new → (Signs (Headed new) ∈ w.past) ⊎ Collides S us
