@@ -1,5 +1,5 @@
 -- An authority: orders, challenges, certificates, revocations and lists. Assumes nothing.
-use Rattle.std.specs.Prelude.{ℕ, zero, suc, ◌+◌, ◌/◌, Bool, true, false, cond, not, ◌&&◌, ltb, leb, List, [], ◌∷◌, ◌++◌, length, take, drop, Some, None, Option, nat_le, nat_lt}
+use Rattle.std.specs.Prelude.{ℕ, zero, suc, ◌+◌, ◌/◌, Bool, true, false, cond, not, ◌&&◌, List, [], ◌∷◌, ◌++◌, length, take, drop, Some, None, Option, nat_le, nat_lt}
 use Rattle.model.specs.Objects.{Certificate}
 use Rattle.wire_theory.specs.Bytes.{Bytes}
 use Rattle.wire_theory.specs.Messages.{SignedList, Settings}
@@ -53,7 +53,7 @@ ordered name key v =
     record { number = v.number; now = v.now; accounts = v.accounts ++ (account_for name key (take 16 v.supply) ∷ []); supply = drop 16 v.supply; listed = v.listed }
 
 abbrev pub on_order : Bytes → Bytes → AuthorityView → Step AuthorityView
-on_order name key v = unless (ltb (length v.supply) 16 ⇒ 14 ∷ (too_large (next_serial v) ⇒ 14 ∷ [])) v
+on_order name key v = unless (nat_lt (length v.supply) 16 ⇒ 14 ∷ (too_large (next_serial v) ⇒ 14 ∷ [])) v
     (answers (ordered name key v) (challenge (next_serial v) (take 16 v.supply)))
 
 -- Certificates
@@ -120,7 +120,7 @@ revoking serial a v = with_accounts (with_account serial (revoked_at v.now a) v.
 -- repeated it changes nothing; a list that is full takes no more
 abbrev pub revokes : Coding → Settings → ℕ → Account → AuthorityView → Step AuthorityView
 revokes K s serial a v = cond (is_some a.revoked) (on_get_list K s v)
-    (unless (leb 1024 (length (serials_at s v)) ⇒ 12 ∷ (too_large v.now ⇒ 14 ∷ [])) v (on_get_list K s (revoking serial a v)))
+    (unless (nat_le 1024 (length (serials_at s v)) ⇒ 12 ∷ (too_large v.now ⇒ 14 ∷ [])) v (on_get_list K s (revoking serial a v)))
 
 -- when the owner says so, with the certificate's key
 abbrev pub on_revoke_of : Coding → Settings → ℕ → Bytes → AuthorityView → Option Account → Step AuthorityView

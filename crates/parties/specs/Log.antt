@@ -1,5 +1,5 @@
 -- A log: promises, merging, heads, proofs and entries. Assumes nothing.
-use Rattle.std.specs.Prelude.{ℕ, ◌+◌, ◌-◌, Bool, cond, not, ◌&&◌, ◌||◌, ltb, List, [], ◌∷◌, ◌++◌, length, take, drop, ◌==◌, nat_le, nat_lt}
+use Rattle.std.specs.Prelude.{ℕ, ◌+◌, ◌-◌, Bool, cond, not, ◌&&◌, ◌||◌, List, [], ◌∷◌, ◌++◌, length, take, drop, ◌==◌, nat_le, nat_lt}
 use Rattle.merkle_theory.specs.Bytes.{over_leaves}
 use Rattle.merkle_theory.specs.Tree.{path, consistency}
 use Rattle.model.specs.Objects.{Certificate}
@@ -80,4 +80,4 @@ on_get_consistency K from to v = unless ((from == 0 || (nat_lt to from || nat_lt
     (answers v (Message.consistency (consistency (over_leaves K.hash) from (take to (leaves_in K v)))))
 
 abbrev pub on_get_entries : Coding → ℕ → ℕ → LogView → Step LogView
-on_get_entries K from to v = unless (ltb 64 (to - from) ⇒ 1 ∷ ((nat_lt to from || nat_lt (length v.merged) to) ⇒ 2 ∷ [])) v (answers v (entries (take (to - from) (drop from v.merged))))
+on_get_entries K from to v = unless (nat_lt 64 (to - from) ⇒ 1 ∷ ((nat_lt to from || nat_lt (length v.merged) to) ⇒ 2 ∷ [])) v (answers v (entries (take (to - from) (drop from v.merged))))

@@ -1,5 +1,5 @@
 -- The monitor of a name: for each log the last head, the digests of all entries below it, and the certificates with its name that it found there. Assumes nothing.
-use Rattle.std.specs.Prelude.{ℕ, suc, ◌+◌, Bool, true, false, cond, not, ◌&&◌, ◌||◌, ltb, List, [], ◌∷◌, ◌++◌, length, Some, None, Option, ◌==◌, nat_le, nat_lt}
+use Rattle.std.specs.Prelude.{ℕ, suc, ◌+◌, Bool, true, false, cond, not, ◌&&◌, ◌||◌, List, [], ◌∷◌, ◌++◌, length, Some, None, Option, ◌==◌, nat_le, nat_lt}
 use Rattle.merkle_theory.specs.Bytes.{over_leaves}
 use Rattle.merkle_theory.specs.Tree.{Roots, path, roots_from_consistency}
 use Rattle.model.specs.Objects.{Certificate}
@@ -61,7 +61,7 @@ digests_with K x new = x.digests ++ leaves_of K new
 
 abbrev pub faults_of : Coding → Seen → Fetched → List Fault
 faults_of K x f =
-    not (K.knows_log f.head.log) ⇒ 2 ∷ (not (right_head K f.head) ⇒ 3 ∷ (ltb f.head.at (tick_of x.head) ⇒ 5 ∷ (ltb f.head.count (length x.digests) ⇒ 5 ∷
+    not (K.knows_log f.head.log) ⇒ 2 ∷ (not (right_head K f.head) ⇒ 3 ∷ (nat_lt f.head.at (tick_of x.head) ⇒ 5 ∷ (nat_lt f.head.count (length x.digests) ⇒ 5 ∷
     (not (goes_on K x f) ⇒ 6 ∷ (not (gives_root K (digests_with K x f.new) f.head) ⇒ 7 ∷ (too_large f.head.at ⇒ 14 ∷ []))))))
 
 -- the certificates with a name

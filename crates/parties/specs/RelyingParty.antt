@@ -1,5 +1,5 @@
 -- A relying party: the newest list of each authority, what it accepted, and what is still to be brought to monitors. Assumes nothing.
-use Rattle.std.specs.Prelude.{ℕ, suc, ◌+◌, Bool, true, false, cond, not, ◌&&◌, ◌||◌, ltb, List, [], ◌∷◌, ◌++◌, length, Some, None, Option, ◌==◌, nat_le, nat_lt}
+use Rattle.std.specs.Prelude.{ℕ, suc, ◌+◌, Bool, true, false, cond, not, ◌&&◌, ◌||◌, List, [], ◌∷◌, ◌++◌, length, Some, None, Option, ◌==◌, nat_le, nat_lt}
 use Rattle.merkle_theory.specs.Tree.{root_from_path}
 use Rattle.model.specs.Objects.{Certificate}
 use Rattle.model.specs.World.{update}
@@ -73,7 +73,7 @@ is_for K t c p = same_bytes p.digest (leaf_of K c) && nat_le p.at t
 abbrev pub faults_of_presented : Coding → Settings → ℕ → Certificate → SignedSct → SignedSct → Option SignedList → List Fault
 faults_of_presented K s t c p q b =
     not (K.knows_authority c.issuer && (K.knows_log p.log && K.knows_log q.log)) ⇒ 2 ∷ (not (right_certificate K c && (right_sct K p && right_sct K q)) ⇒ 3 ∷
-    (not (is_for K t c p && (is_for K t c q && not (p.log == q.log))) ⇒ 8 ∷ (ltb c.expiry t ⇒ 9 ∷ (not (has_fresh s t b) ⇒ 10 ∷ (is_revoked_by c.serial b ⇒ 11 ∷
+    (not (is_for K t c p && (is_for K t c q && not (p.log == q.log))) ⇒ 8 ∷ (nat_lt c.expiry t ⇒ 9 ∷ (not (has_fresh s t b) ⇒ 10 ∷ (is_revoked_by c.serial b ⇒ 11 ∷
     ((too_large c.serial || (too_large c.expiry || too_large t)) ⇒ 14 ∷ []))))))
 
 -- it is brought first at the next tick
