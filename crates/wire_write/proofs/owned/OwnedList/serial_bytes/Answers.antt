@@ -7,7 +7,8 @@ use Rattle.wire_write.proofs.owned.OwnedList.serial_bytes.Goals as goal
 
 pub loop-serial-preserved : goal.loop-serial-preserved
 loop-serial-preserved c =
-    one_number_more (vec_items c.args.self.now.serials) _ _ _ c.loop-serial.serial-index (omega arith) c.loop-serial.invariant (c.to_be_bytes.ensures ∙ eight_bytes_of _ ∙ ap (λ ns. big 8 (get_or ns c.loop-serial.serial-index 0)) c.deref-serial-items.ensures.value) c.in_ok-extend_from_slice.ensures.items
+    let eight = eight_bytes_of (get_or (vec_items c.args.self.now.serials) c.loop-serial.serial-index 0) in
+    one_number_more (vec_items c.args.self.now.serials) _ _ _ c.loop-serial.serial-index (omega arith) c.loop-serial.invariant (cc) c.in_ok-extend_from_slice.ensures.items
 
 pub returns : goal.returns
 returns c = c.loop-serial.invariant ∙ ap (flat_map (big 8)) (take_all c.loop-serial.serial-index _ (omega arith))
