@@ -65,14 +65,14 @@ module _ {D X : Type 0} (up : Bool → D → X → X) where
         ((p : D) (ps : List D) → split w.count ≤ w.place →
         G w.count w.place w.turns (p ∷ ps) ≡ up true p (G (w.count - split w.count) (w.place - split w.count) (w.turns * 2 + 1) ps)) →
         OnWay f levels w → OnWay f levels v
-    on_down f levels w v more (side, level) toLeft toRight known =
+    on_down f levels w v more (side, level) to_left to_right known =
         subst (λ i. Reached f levels v.turns i h) (sym level) (elim side [
           | inl (here, en, em, et) ↦
               subst (λ t. Reached f levels t (w.levels + 1) h) (omega arith)
-              (reached_more f g h levels w.turns 0 w.levels more (omega arith) (λ p ps. toLeft p ps here ∙ sym (λ i. up false p (G (en i) (em i) (et i) ps))) known)
+              (reached_more f g h levels w.turns 0 w.levels more (omega arith) (λ p ps. to_left p ps here ∙ sym (λ i. up false p (G (en i) (em i) (et i) ps))) known)
           | inr (here, en, em, et) ↦
               subst (λ t. Reached f levels t (w.levels + 1) h) (sym et)
-              (reached_more f g h levels w.turns 1 w.levels more (omega arith) (λ p ps. toRight p ps here ∙ sym (λ i. up true p (G (en i) (em i) (et i) ps))) known)
+              (reached_more f g h levels w.turns 1 w.levels more (omega arith) (λ p ps. to_right p ps here ∙ sym (λ i. up true p (G (en i) (em i) (et i) ps))) known)
         ])
       where
         g : List D → X

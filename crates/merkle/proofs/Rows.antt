@@ -105,9 +105,9 @@ nodes_over_parts (suc n) size row power h =
 -- eight parts of half the size make four
 pub four_of_eight : (half size : ℕ) (row front back : List Digest) → half + half ≡ size → PowerOfTwo half → length row ≡ 4 * size →
     front ≡ take (2 * size) row → back ≡ drop (2 * size) row → nodes_over (part_roots 4 half front ++ part_roots 4 half back) ≡ part_roots 4 size row
-four_of_eight half size row front back e power long isFront isBack =
+four_of_eight half size row front back e power long is_front is_back =
     let here : 2 * size ≡ 4 * half = omega arith in
-    ap₂ (λ xs ys. nodes_over (part_roots 4 half xs ++ part_roots 4 half ys)) (isFront ∙ ap (λ k. take k row) here) (isBack ∙ ap (λ k. drop k row) here)
+    ap₂ (λ xs ys. nodes_over (part_roots 4 half xs ++ part_roots 4 half ys)) (is_front ∙ ap (λ k. take k row) here) (is_back ∙ ap (λ k. drop k row) here)
     ∙ (ap nodes_over (parts_append 4 4 half row (omega arith))
     ∙ (nodes_over_parts 4 half row power (omega arith) ∙ ap (λ s. part_roots 4 s row) e))
 
@@ -134,9 +134,9 @@ sides_alike row left right whole all same long =
 
 pub sides_are : (row left right : List Digest) → 2 ≤ length row → left ≡ take (split (length row)) row → right ≡ drop (split (length row)) row →
     PowerOfTwo (length left) × (length left + length right ≡ length row) × (0 < length right) × (root leaves row ≡ node_of (root leaves left) (root leaves right))
-sides_are row left right many isLeft isRight =
+sides_are row left right many is_left is_right =
     let (a, e) = split_power (length row) many in
-    let l : length left ≡ split (length row) = ap length isLeft ∙ length-left row many in
-    let r : length right ≡ length row - split (length row) = ap length isRight ∙ length-right row in
+    let l : length left ≡ split (length row) = ap length is_left ∙ length-left row many in
+    let r : length right ≡ length row - split (length row) = ap length is_right ∙ length-right row in
     let below = split_below (length row) many in
-    ((a, l ∙ e), omega arith, omega arith, root-of_more leaves row many ∙ ap₂ (λ x y. node_of (root leaves x) (root leaves y)) (sym isLeft) (sym isRight))
+    ((a, l ∙ e), omega arith, omega arith, root-of_more leaves row many ∙ ap₂ (λ x y. node_of (root leaves x) (root leaves y)) (sym is_left) (sym is_right))

@@ -5,7 +5,7 @@ use lib.ListN.{length-map}
 use Rattle.std.proofs.lemmas.Bool.{or_parts, eqb-false, ltb-false, leb-false}
 use Rattle.merkle_theory.specs.Bytes.{over_leaves}
 use Rattle.merkle_theory.specs.Claims.{Stands}
-use Rattle.merkle_theory.specs.Tree.{path, consistency as proofFrom, PathLeads, ConsistencyLeads}
+use Rattle.merkle_theory.specs.Tree.{path, consistency as proof_from, PathLeads, ConsistencyLeads}
 use Rattle.merkle_theory.proofs.There.{path-there, consistency-there}
 use Rattle.model.specs.Objects.{Certificate}
 use Rattle.wire_theory.specs.Bytes.{Bytes}
@@ -79,14 +79,14 @@ module _ (K : Coding) (v : LogView) where
       let below : from ≤ to = ltb-false _ _ inside in
       let few : to ≤ length v.merged = ltb-false _ _ enough in
       let ds : List Bytes = take to (leaves_in K v) in
-      let leads : ConsistencyLeads (node_of K) from (length ds) (root_of K (take from ds)) (root_of K ds) (proofFrom (over_leaves K.hash) from ds) =
+      let leads : ConsistencyLeads (node_of K) from (length ds) (root_of K (take from ds)) (root_of K ds) (proof_from (over_leaves K.hash) from ds) =
       consistency-there (over_leaves K.hash) from ds positive (omega (arith, below, as_many to few)) in (
         positive,
         below,
         few,
         subst (λ (p : List Bytes). ConsistencyLeads (node_of K) from to (root_of K (take from (leaves_in K v))) (root_of K ds) p) (same_proof _ _ said)
-            (subst (λ (row : List Bytes). ConsistencyLeads (node_of K) from to (root_of K row) (root_of K ds) (proofFrom (over_leaves K.hash) from ds)) (first_of_first (leaves_in K v) to from below)
-            (subst (λ (n : ℕ). ConsistencyLeads (node_of K) from n (root_of K (take from ds)) (root_of K ds) (proofFrom (over_leaves K.hash) from ds)) (as_many to few) leads)),
+            (subst (λ (row : List Bytes). ConsistencyLeads (node_of K) from to (root_of K row) (root_of K ds) (proof_from (over_leaves K.hash) from ds)) (first_of_first (leaves_in K v) to from below)
+            (subst (λ (n : ℕ). ConsistencyLeads (node_of K) from n (root_of K (take from ds)) (root_of K ds) (proof_from (over_leaves K.hash) from ds)) (as_many to few) leads)),
       )
 
   is_shown : (from to : ℕ) (cs : List Certificate) → (to_log K (get_entries from to) v).answer ≡ entries cs →

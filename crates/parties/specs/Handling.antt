@@ -6,10 +6,10 @@ use Rattle.wire_theory.specs.Messages.{Message, Settings}
 use Rattle.wire_theory.specs.Messages.Message.{certificate, sct, head, list, order, challenge, published, submit, get_head, get_inclusion, get_consistency, get_entries, revoke, get_list, bring, present, inclusion, consistency, entries, answer, accepted, refused}
 use Rattle.parties.specs.Coding.{Coding}
 use Rattle.parties.specs.Steps.{Step, answers}
-use Rattle.parties.specs.Authority.{AuthorityView, on_order, on_published, on_revoke, on_get_list, withdraw, on_tick as authorityTick}
-use Rattle.parties.specs.Log.{LogView, on_submit, on_get_head, on_get_inclusion, on_get_consistency, on_get_entries, on_tick as logTick}
-use Rattle.parties.specs.Monitor.{MonitorView, Fetched, Brought, says, on_bring, on_fetched, on_tick as monitorTick}
-use Rattle.parties.specs.RelyingParty.{RelyingView, on_list, on_present, on_tick as relyingTick}
+use Rattle.parties.specs.Authority.{AuthorityView, on_order, on_published, on_revoke, on_get_list, withdraw, on_tick as authority_tick}
+use Rattle.parties.specs.Log.{LogView, on_submit, on_get_head, on_get_inclusion, on_get_consistency, on_get_entries, on_tick as log_tick}
+use Rattle.parties.specs.Monitor.{MonitorView, Fetched, Brought, says, on_bring, on_fetched, on_tick as monitor_tick}
+use Rattle.parties.specs.RelyingParty.{RelyingView, on_list, on_present, on_tick as relying_tick}
 
 -- a message's kind, the first of its bytes
 abbrev pub kind : Message → ℕ
@@ -159,10 +159,10 @@ pub record RefusalsChangeNothing : Type 0 where
 
 -- a tick below the last changes nothing, and nothing is sent
 pub record EarlierTicksChangeNothing : Type 0 where
-  pub authority : (K : Coding) (s : Settings) (t : ℕ) (v : AuthorityView) → t < v.now → ((authorityTick K s t v).view ≡ v) × ((authorityTick K s t v).sends ≡ [])
-  pub log : (K : Coding) (t : ℕ) (v : LogView) → t < v.now → ((logTick K t v).view ≡ v) × ((logTick K t v).sends ≡ [])
-  pub monitor : (t : ℕ) (v : MonitorView) → t < v.now → monitorTick t v ≡ v
-  pub relying : (t : ℕ) (v : RelyingView) → t < v.now → relyingTick t v ≡ v
+  pub authority : (K : Coding) (s : Settings) (t : ℕ) (v : AuthorityView) → t < v.now → ((authority_tick K s t v).view ≡ v) × ((authority_tick K s t v).sends ≡ [])
+  pub log : (K : Coding) (t : ℕ) (v : LogView) → t < v.now → ((log_tick K t v).view ≡ v) × ((log_tick K t v).sends ≡ [])
+  pub monitor : (t : ℕ) (v : MonitorView) → t < v.now → monitor_tick t v ≡ v
+  pub relying : (t : ℕ) (v : RelyingView) → t < v.now → relying_tick t v ≡ v
 
 -- The kinds that are for each party
 

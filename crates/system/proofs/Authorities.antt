@@ -14,7 +14,7 @@ use Rattle.model.proofs.Revoking.{revoked_has_happened}
 use Rattle.model.proofs.Serials.{serials_rise, serial_was_revoked, revoked_has_serial}
 use Rattle.wire_theory.specs.Messages.{SignedList}
 use Rattle.parties.specs.Steps.{Tick}
-use Rattle.parties.specs.Authority.{Account, AuthorityView, account_of, is_recent, listed_from, serials_at, listing, arrived_at, on_get_list, list_of as signedListOf}
+use Rattle.parties.specs.Authority.{Account, AuthorityView, account_of, is_recent, listed_from, serials_at, listing, arrived_at, on_get_list, list_of as signed_list_of}
 use Rattle.parties.proofs.Accounts.{from_one, listed_rises, was_revoked, is_listed}
 use Rattle.system.specs.Setup.{Setup, rules_of}
 use Rattle.system.specs.Runs.{Sealed, State, with_authority, signing, signed_in_all, authority_does, step}
@@ -125,7 +125,7 @@ module _ (S : Setup) {w : World} {k : ℕ} (run : Steps (rules_of S) k start w) 
 module _ (S : Setup) (s : State) (a : ℕ) (honest : S.honest_authority a ≡ true) (u : AuthorityView) (awake : u.now ≡ s.clock) {w : World} {k : ℕ} (run : Steps (rules_of S) k start w)
     (st : Stands S (with_authority a u s) w) where
   abbrev b : SignedList
-  b = signedListOf S.coding S.settings u
+  b = signed_list_of S.coding S.settings u
 
   abbrev e : Event
   e = Signs (Listed (list_of b))

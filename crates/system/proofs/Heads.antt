@@ -10,7 +10,7 @@ use Rattle.model.specs.Rules.Steps.{onward}
 use Rattle.wire_theory.specs.Bytes.{Bytes}
 use Rattle.wire_theory.specs.Messages.{SignedHead}
 use Rattle.parties.specs.Coding.{leaves_of, root_texts_of}
-use Rattle.parties.specs.Log.{head_of as signedHeadOf}
+use Rattle.parties.specs.Log.{head_of as signed_head_of}
 use Rattle.system.specs.Setup.{Setup, Sound, rules_of}
 use Rattle.system.specs.Runs.{Sealed, State, with_log, signing, hashing, log_does, step}
 use Rattle.system.specs.Runs.Sealed.{SealedHead}
@@ -28,7 +28,7 @@ module _ (S : Setup) (sound : Sound S) (s : State) (l : ℕ) (honest : S.honest_
   signs_texts = root_texts_of S.coding (leaves_of S.coding (s.logs l).merged)
 
   abbrev signed_head : SignedHead
-  signed_head = signedHeadOf S.coding (s.logs l)
+  signed_head = signed_head_of S.coding (s.logs l)
 
   abbrev its_head : TreeHead
   its_head = head_of signed_head (s.logs l).merged

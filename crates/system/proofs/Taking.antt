@@ -18,7 +18,7 @@ use Rattle.parties.specs.Monitor.{Seen, Fetched, digests_with, goes_on, leads_to
 use Rattle.parties.proofs.Compared.{same_from}
 use Rattle.system.specs.Setup.{Setup, Sound}
 use Rattle.system.specs.Runs.{State}
-use Rattle.system.specs.Stands.{head_of as worldHead, Reaches}
+use Rattle.system.specs.Stands.{head_of as world_head, Reaches}
 use Rattle.system.specs.Assured.{OfEveryRun, HeadIsTaken, answers_of}
 use Rattle.system.proofs.Heads.{may_head}
 use Rattle.system.proofs.Assuring.{of_world, safe}
@@ -58,8 +58,8 @@ module _ (S : Setup) (sound : Sound S) (s : State) (r : Reaches S s) (l n : ℕ)
   number = (r.stands.logs l honest).number
 
   -- the model's monitor takes it, since it goes on from what the monitor has
-  extends : Extends (r.world.seen n l) (worldHead (head_of S.coding v) v.merged)
-  extends = subst (λ (i : ℕ). Extends (r.world.seen n i) (worldHead (head_of S.coding v) v.merged)) number
+  extends : Extends (r.world.seen n l) (world_head (head_of S.coding v) v.merged)
+  extends = subst (λ (i : ℕ). Extends (r.world.seen n i) (world_head (head_of S.coding v) v.merged)) number
       ((safe S sound s r).logging.head_is_taken _ (ap S.honest_log number ∙ honest) (may_head S sound s l honest awake r.run r.stands) n).extends
 
   merged : v.merged ≡ old ++ extends.begins.more
