@@ -3,9 +3,8 @@ use Rattle.std.proofs.Common.{◌≡◌, ℕ, zero, suc, ◌+◌, ◌^◌, ◌<�
 use lib.Lanes.{zip2}
 use Rattle.std.proofs.lemmas.Simd.{get_or-zip2, length-zip2}
 use Rattle.std.proofs.lemmas.List.{get_or_append_left, get_or_at}
-use Rattle.sha256.specs.Standard.{◌⊞◌, K, round, rounds}
+use Rattle.sha256.specs.Standard.{Words, ◌⊞◌, K, round, rounds}
 use Rattle.sha256.specs.Steps.{turned, with_h, ahead}
-use Rattle.sha256.specs.declared.words.Words.{Words}
 
 sums_agree : (h b c k w : ℕ) → h ⊞ (k ⊞ w) ⊞ b ⊞ c ≡ h ⊞ b ⊞ c ⊞ k ⊞ w
 sums_agree h b c k w = omega arith

@@ -1,8 +1,7 @@
 -- The length and the bytes of a digest.
 use Rattle.std.proofs.Common.{ℕ, zero, suc, ◌/◌, ◌<◌, List, [], ◌∷◌, ◌++◌, length, get_or, refl, arith}
 use Rattle.std.specs.List.{flat_map}
-use Rattle.sha256.specs.Standard.{H0, padded, blocks, hashed, bytes32, output, digest}
-use Rattle.sha256.specs.declared.words.Words.{Words}
+use Rattle.sha256.specs.Standard.{Words, H0, padded, blocks, hashed, bytes32, output, digest}
 use Rattle.sha256.specs.Theorems.{DigestLong, DigestBytes}
 
 pub digest_long : DigestLong

@@ -2,36 +2,35 @@
 use Rattle.std.proofs.Common.{◌≡◌, ℕ, suc, ◌+◌, ◌-◌, ◌*◌, ◌/◌, ◌%◌, ◌^◌, ◌<◌, ◌≤◌, List, ◌∷◌, ◌++◌, length, take, set, replicate, sym, refl, ap, ◌∙◌, zero-add, arith}
 use lib.Seq.{paste}
 use Rattle.std.proofs.lemmas.List.{append_assoc, take_all, take_at, set_at, drop-replicate, replicate-append-replicate, length-append, length-replicate}
-use Rattle.sha256.specs.Standard.{blocks, hashed, output, padded, zeros, bytes64, digest}
+use Rattle.sha256.specs.Standard.{Words, blocks, hashed, output, padded, zeros, bytes64, digest}
 use Rattle.sha256.specs.Streaming.{Fed}
 use Rattle.sha256.specs.declared.hasher.Hasher.{Hasher}
-use Rattle.sha256.specs.declared.words.Words.{Words}
-use Rattle.sha256.proofs.Pasted.{take_paste}
+use Rattle.sha256.proofs.Pasted.{paste_to_end}
 use Rattle.sha256.proofs.Feeding.{fed_over, fed_filled, over_more}
 
 -- zeros, with the rest of a message put in front, and a bit
-marked : (rest : List ℕ) → length rest < 128 → set (paste (replicate 128 0) 0 rest (length rest)) (length rest) 0x80 ≡ rest ++ 0x80 ∷ replicate (127 - length rest) 0
-marked rest l =
+marked : (rest : List ℕ) (e : ℕ) → length rest < e → set (paste (replicate e 0) 0 rest (length rest)) (length rest) 0x80 ≡ rest ++ 0x80 ∷ replicate (e - 1 - length rest) 0
+marked rest e l =
     let n = length rest in
-    let one : 128 - n ≡ suc (127 - n) = omega arith in
-    rw (zero-add n, drop-replicate {X = ℕ} n 128 0, one, take_all n rest (omega arith)) (set_at rest 0 (replicate (127 - n) 0) 0x80 n refl)
+    let one : e - n ≡ suc (e - 1 - n) = omega arith in
+    rw (zero-add n, drop-replicate {X = ℕ} n e 0, one, take_all n rest (omega arith)) (set_at rest 0 (replicate (e - 1 - n) 0) 0x80 n refl)
 
-pub ended : (rest bits t u : List ℕ) (e : ℕ) → length rest + 9 ≤ e → e ≤ 128 → length bits ≡ 8
-    → t ≡ paste (replicate 128 0) 0 rest (length rest) → u ≡ paste (set t (length rest) 0x80) (e - 8) bits (length bits)
-    → take e u ≡ rest ++ 0x80 ∷ replicate (e - 9 - length rest) 0 ++ bits
-ended rest bits t u e l h b p q =
+pub ended : (rest bits t u : List ℕ) (e : ℕ) → length rest + 9 ≤ e → length bits ≡ 8
+    → t ≡ paste (replicate e 0) 0 rest (length rest) → u ≡ paste (set t (length rest) 0x80) (e - 8) bits (length bits)
+    → u ≡ rest ++ 0x80 ∷ replicate (e - 9 - length rest) 0 ++ bits
+ended rest bits t u e l b p q =
     let n = length rest in
     let front = rest ++ 0x80 ∷ replicate (e - 9 - n) 0 in
-    let room : (e - 9 - n) + (136 - e) ≡ 127 - n = omega arith in
-    let zeros-parted : ◌≡◌ {A = List ℕ} (replicate (127 - n) 0) (replicate (e - 9 - n) 0 ++ replicate (136 - e) 0) =
-    ap (λ k. replicate k 0) (sym room) ∙ sym (replicate-append-replicate (e - 9 - n) (136 - e) 0) in
-    let parts : set t n 0x80 ≡ front ++ replicate (136 - e) 0 =
-    ap (λ x. set x n 0x80) p ∙ marked rest (omega arith) ∙ ap (λ z. rest ++ 0x80 ∷ z) zeros-parted
-    ∙ sym (append_assoc rest (0x80 ∷ replicate (e - 9 - n) 0) (replicate (136 - e) 0)) in
+    let room : (e - 9 - n) + 8 ≡ e - 1 - n = omega arith in
+    let zeros-parted : ◌≡◌ {A = List ℕ} (replicate (e - 1 - n) 0) (replicate (e - 9 - n) 0 ++ replicate 8 0) =
+    ap (λ k. replicate k 0) (sym room) ∙ sym (replicate-append-replicate (e - 9 - n) 8 0) in
+    let parts : set t n 0x80 ≡ front ++ replicate 8 0 =
+    ap (λ x. set x n 0x80) p ∙ marked rest e (omega arith) ∙ ap (λ z. rest ++ 0x80 ∷ z) zeros-parted
+    ∙ sym (append_assoc rest (0x80 ∷ replicate (e - 9 - n) 0) (replicate 8 0)) in
     let size : length front ≡ e - 8 = simp (length-append, length-replicate) (omega arith) in
-    let all : e - 8 ≤ length (set t n 0x80) = rw parts (omega (arith, length-append front (replicate (136 - e) 0))) in
-    ap (take e) q ∙ take_paste (set t n 0x80) bits (e - 8) (length bits) e refl (omega arith) all
-    ∙ ap (λ x. x ++ bits) (ap (take (e - 8)) parts ∙ take_at front (replicate (136 - e) 0) (e - 8) size)
+    let all : length (set t n 0x80) ≡ e = ap length parts ∙ length-append front (replicate 8 0) ∙ omega arith in
+    paste_to_end (set t n 0x80) bits u (e - 8) q (omega arith)
+    ∙ ap (λ x. x ++ bits) (ap (take (e - 8)) parts ∙ take_at front (replicate 8 0) (e - 8) size)
 
 bytes64_low : (n : ℕ) → bytes64 (n % 2 ^ 64) ≡ bytes64 n
 bytes64_low n =

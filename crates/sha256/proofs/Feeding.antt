@@ -2,10 +2,9 @@
 use Rattle.std.proofs.Common.{◌≡◌, ℕ, ◌+◌, ◌-◌, ◌*◌, ◌/◌, ◌%◌, ◌^◌, ◌<◌, ◌≤◌, List, [], ◌++◌, length, take, drop, sym, refl, ap, ◌∙◌, arith}
 use lib.Seq.{length-paste, paste}
 use Rattle.std.proofs.lemmas.List.{append-nil, append_assoc, nil_from_length, length-append, length-take-le, length-drop, take-append-drop, take_all}
-use Rattle.sha256.specs.Standard.{H0, blocks, hashed}
+use Rattle.sha256.specs.Standard.{Words, H0, blocks, hashed}
 use Rattle.sha256.specs.Streaming.{Fed}
 use Rattle.sha256.specs.declared.hasher.Hasher.{Hasher}
-use Rattle.sha256.specs.declared.words.Words.{Words}
 use Rattle.sha256.proofs.Pasted.{take_paste}
 use Rattle.sha256.proofs.Whole.{hashed_append, blocks_append, blocks_take}
 

@@ -1,9 +1,10 @@
 -- Vectors of four words, looked at in one lane: the operations that the code makes of them.
-use Rattle.std.proofs.Common.{◌≡◌, ℕ, zero, suc, ◌^◌, ◌<◌, ◌≢◌, List, [], ◌∷◌, length, get_or, set, replicate, sym, refl, ap, ◌∙◌, ap₂, arith, w32, Fits}
-use lib.Lanes.{zip2, Each1}
-use Rattle.std.proofs.lemmas.Simd.{get_or-zip2, length-zip2, Each1-get_or}
-use Rattle.std.proofs.lemmas.List.{map-set, get_or-map, get_or-replicate, get_or-set_other}
-use Rattle.sha256.specs.Steps.{column, EndsInZero}
+use Rattle.std.proofs.Common.{◌≡◌, ℕ, zero, suc, ◌<◌, List, [], ◌∷◌, length, map, get_or, set, sym, refl, ap, ◌∙◌, ap₂, arith}
+use lib.ListN.{length-map}
+use lib.Lanes.{zip2}
+use Rattle.std.proofs.lemmas.Simd.{get_or-zip2, length-zip2}
+use Rattle.std.proofs.lemmas.List.{map-set, get_or-map}
+use Rattle.sha256.specs.Steps.{column}
 
 -- xs has four lanes, and v in lane l
 pub record Lane (l : ℕ) (xs : List ℕ) (v : ℕ) : Type 0 where
@@ -37,8 +38,10 @@ module _ (l : ℕ) (h : l < 4) where
         is = get_or-zip2 f xs ys l 0 0 0 (omega arith) (omega arith) ∙ ap₂ f p.is q.is;
       }
 
-  pub lane_fits : {xs : List ℕ} {v : ℕ} → Lane l xs v → Each1 (Fits w32) xs → get_or xs l 0 < 2 ^ 32
-  lane_fits {xs} p e = let lx = p.long in (Each1-get_or (Fits w32) xs l 0 (omega arith) e).fits
+  pub each : (f : ℕ → ℕ) {xs : List ℕ} {a : ℕ} → Lane l xs a → Lane l (map f xs) (f a)
+  each f {xs} p =
+      let lx = p.long in
+      record { long = simp length-map lx; is = get_or-map f xs l 0 0 (omega arith) ∙ ap f p.is }
 
 -- ---- one lane of a list of vectors
 
@@ -47,15 +50,3 @@ column_set l ws t x = map-set (λ k. get_or k l 0) ws t x
 
 pub column_at : (l : ℕ) (ws : List (List ℕ)) (t : ℕ) (d : List ℕ) → t < length ws → get_or (get_or ws t d) l 0 ≡ get_or (column l ws) t 0
 column_at l ws t d h = sym (get_or-map (λ k. get_or k l 0) ws t d 0 h)
-
-pub column_zeros : (l n : ℕ) (z : List ℕ) → get_or z l 0 ≡ 0 → column l (replicate n z) ≡ replicate n 0
-column_zeros l zero z e = refl
-column_zeros l (suc n) z e = ap₂ (λ x xs. x ∷ xs) e (column_zeros l n z e)
-
-pub zeros_end : EndsInZero (replicate 65 (replicate 4 0))
-zeros_end l h = ap (λ v. get_or v 64 0) (column_zeros l 65 (replicate 4 0) (get_or-replicate 4 l 0 0 h))
-
-pub ends_set : (ks : List (List ℕ)) (t : ℕ) (x : List ℕ) → t < 64 → EndsInZero ks → EndsInZero (set ks t x)
-ends_set ks t x l e =
-    λ i h. let other : 64 ≢ t = omega arith in
-    ap (λ v. get_or v 64 0) (column_set i ks t x) ∙ get_or-set_other (column i ks) t 64 (get_or x i 0) 0 other ∙ e i h

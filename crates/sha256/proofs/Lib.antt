@@ -1,8 +1,10 @@
 mod Ahead
 mod Choosing
+mod Chunked
 pub mod Digests
 mod Ending
 mod Feeding
+mod FromFn
 mod Lanewise
 mod Nodes
 mod Pasted

@@ -1,9 +1,8 @@
 -- A message of 65 bytes, padded to two blocks.
-use Rattle.std.proofs.Common.{◌≡◌, ℕ, suc, ◌+◌, ◌-◌, ◌*◌, ◌/◌, ◌^◌, ◌<◌, ◌≤◌, List, [], ◌∷◌, ◌++◌, length, get_or, take, set, replicate, sym, refl, ap, ◌∙◌, arith}
+use Rattle.std.proofs.Common.{◌≡◌, ℕ, suc, ◌+◌, ◌-◌, ◌*◌, ◌/◌, ◌<◌, ◌≤◌, List, [], ◌∷◌, ◌++◌, length, get_or, take, drop, set, replicate, sym, refl, ap, ◌∙◌, arith}
 use lib.Seq.{length-paste, paste}
-use Rattle.std.proofs.lemmas.List.{take_all, take_more, length-append, length-take-le, append_assoc, get_or-take, get_or_append_left, get_or-replicate}
-use Rattle.sha256.specs.Standard.{H0, compress, blocks, hashed, output, padded, bytes64, word_at, digest}
-use Rattle.sha256.specs.declared.words.Words.{Words}
+use Rattle.std.proofs.lemmas.List.{take_all, take_more, length-append, length-take-le, append_assoc, get_or-take, get_or-drop, get_or_append_left, get_or-replicate}
+use Rattle.sha256.specs.Standard.{Words, H0, compress, blocks, hashed, output, padded, bytes64, word_at, digest}
 use Rattle.sha256.proofs.Whole.{blocks_append}
 use Rattle.sha256.proofs.Pasted.{take_paste, paste_to_end}
 
@@ -14,11 +13,11 @@ tagged_is tag l r d e ll lr p q =
     let long : length d ≡ 65 = ap length p ∙ length-paste (tag ∷ replicate 64 0) 1 l (length l) (omega arith) (omega arith) in
     paste_to_end d r e 33 q (omega arith) ∙ ap (λ x. x ++ r) front
 
-pub node_digest : (m b : List ℕ) (w : Words) → length m ≡ 65 → length b ≡ 128 → take 128 b ≡ m ++ 0x80 ∷ replicate (128 - 9 - length m) 0 ++ bytes64 520
+pub node_digest : (m b : List ℕ) (w : Words) → length m ≡ 65 → length b ≡ 128 → b ≡ m ++ 0x80 ∷ replicate (128 - 9 - length m) 0 ++ bytes64 520
     → w ≡ hashed H0 (blocks (length b / 64) b) → output w ≡ digest m
 unfolding digest padded
 node_digest m b w lm lb e g =
-    let all : b ≡ padded m = sym (take_all 128 b (omega arith)) ∙ e ∙ rw lm in
+    let all : b ≡ padded m = e ∙ rw lm in
     ap output (g ∙ rw all)
 
 -- by its two blocks
@@ -36,17 +35,21 @@ two_blocks tag pair v w l p q =
     let cut : blocks 2 (front ++ back) ≡ front ∷ back ∷ [] =
     blocks_append 1 1 front back size ∙ ap (λ x. x ∷ back ∷ []) (take_all 64 front (omega arith)) in
     node_digest (tag ∷ pair) (front ++ back) w (omega arith) all
-    (take_all 128 (front ++ back) (omega arith) ∙ message ∙ rw l)
+    (message ∙ rw l)
     (q ∙ ap (λ x. compress x back) p ∙ sym (ap (λ n. hashed H0 (blocks (n / 64) (front ++ back))) all ∙ ap (hashed H0) cut))
 
 -- ---- the words of the two blocks
 
-tagged_byte : (tag : ℕ) (p : List ℕ) (k j : ℕ) → j ≡ suc k → k < 63 → get_or p k 0 ≡ get_or (tag ∷ take 63 p) j 0
-tagged_byte tag p k j e h = sym (ap (λ n. get_or (tag ∷ take 63 p) n 0) e ∙ get_or-take 63 p k 0 h)
+-- byte k of what is left of the pair past its first three
+tagged_byte : (tag : ℕ) (p : List ℕ) (k j : ℕ) → j ≡ k + 4 → k < 60 → get_or (take 61 (drop 3 p)) k 0 ≡ get_or (tag ∷ take 63 p) j 0
+tagged_byte tag p k j e h =
+    let at : j ≡ suc (3 + k) = omega arith in
+    get_or-take 61 (drop 3 p) k 0 (omega arith) ∙ get_or-drop 3 p k 0
+    ∙ sym (ap (λ n. get_or (tag ∷ take 63 p) n 0) at ∙ get_or-take 63 p (3 + k) 0 (omega arith))
 
-pub tagged_word : (tag : ℕ) (p : List ℕ) (t at : ℕ) → t < 16 → at + 1 ≡ 4 * t
-    → get_or p at 0 * 2 ^ 24 + get_or p (at + 1) 0 * 2 ^ 16 + get_or p (at + 2) 0 * 2 ^ 8 + get_or p (at + 3) 0 ≡ word_at (tag ∷ take 63 p) t
-tagged_word tag p t at h e =
+pub tagged_word : (tag : ℕ) (p : List ℕ) (t : ℕ) → 0 < t → t < 16 → word_at (take 61 (drop 3 p)) (t - 1) ≡ word_at (tag ∷ take 63 p) t
+tagged_word tag p t z h =
+    let at = 4 * (t - 1) in
     rw (
       tagged_byte tag p at (4 * t) (omega arith) (omega arith),
       tagged_byte tag p (at + 1) (4 * t + 1) (omega arith) (omega arith),

@@ -1,8 +1,8 @@
 -- What stands in a place after bytes were put there.
-use Rattle.std.proofs.Common.{◌≡◌, ℕ, ◌+◌, ◌*◌, ◌<◌, ◌≤◌, List, [], ◌++◌, length, get_or, take, drop, sym, refl, ap, ◌∙◌, arith}
+use Rattle.std.proofs.Common.{◌≡◌, ℕ, suc, ◌+◌, ◌*◌, ◌<◌, ◌≤◌, List, [], ◌∷◌, ◌++◌, length, get_or, take, drop, sym, refl, ap, ◌∙◌, arith}
 use lib.Seq.{length-paste, paste}
 use Rattle.std.specs.List.{flat_map}
-use Rattle.std.proofs.lemmas.List.{take_all, take_at, take_more, length-append, length-take-le, flat_map_more}
+use Rattle.std.proofs.lemmas.List.{take_all, take_at, length-append, length-take-le}
 use Rattle.sha256.specs.Standard.{bytes32}
 
 -- up to the end of what was put
@@ -18,17 +18,20 @@ paste_to_end d s e at p l =
     let long : length e ≡ length d = ap length p ∙ length-paste d at s (length s) (omega arith) (omega arith) in
     sym (take_all (length d) e (omega arith)) ∙ ap (take (length d)) p ∙ take_paste d s at (length s) (length d) refl (omega arith) (omega arith)
 
--- word i after the words before it
-pub words_more : (ws d e b : List ℕ) (i : ℕ) → i < length ws → length ws ≡ 8 → length d ≡ 32 → take (4 * i) d ≡ flat_map bytes32 (take i ws)
-    → b ≡ bytes32 (get_or ws i 0) → e ≡ paste d (4 * i) b (length b)
-    → (length e ≡ 32) × (take (4 * (i + 1)) e ≡ flat_map bytes32 (take (i + 1) ws))
-words_more ws d e b i l lw ld was h p =
-    let four : length b ≡ 4 = ap length h in
-    let length-e : length e ≡ 32 = ap length p ∙ length-paste d (4 * i) b (length b) (omega arith) (omega arith) ∙ ld in
-    let front : take (4 * (i + 1)) e ≡ take (4 * i) d ++ b =
-    ap (take (4 * (i + 1))) p ∙ take_paste d b (4 * i) (length b) (4 * (i + 1)) refl (omega arith) (omega arith) in
-    (length-e, front ∙ rw (was, h, take_more ws i 0 l) (flat_map_more bytes32 [] (take i ws) (get_or ws i 0)))
-
-pub words_all : (ws d : List ℕ) (i : ℕ) → i ≡ 8 → length ws ≡ 8 → length d ≡ 32 → take (4 * i) d ≡ flat_map bytes32 (take i ws) → d ≡ flat_map bytes32 ws
-words_all ws d i e lw ld h =
-    sym (take_all (4 * i) d (omega arith)) ∙ h ∙ ap (flat_map bytes32) (take_all i ws (omega arith))
+-- bytes that are words, each in four
+pub by_fours : (ws ys : List ℕ) → length ys ≡ 4 * length ws → ((i j : ℕ) → i < length ws → j < 4 → get_or ys (4 * i + j) 0 ≡ get_or (bytes32 (get_or ws i 0)) j 0)
+    → ys ≡ flat_map bytes32 ws
+by_fours [] [] l h = refl
+by_fours [] (y ∷ ys) l h = absurd (omega arith)
+by_fours (w ∷ ws) [] l h = absurd (omega arith)
+by_fours (w ∷ ws) (a ∷ []) l h = absurd (omega arith)
+by_fours (w ∷ ws) (a ∷ b ∷ []) l h = absurd (omega arith)
+by_fours (w ∷ ws) (a ∷ b ∷ c ∷ []) l h = absurd (omega arith)
+by_fours (w ∷ ws) (a ∷ b ∷ c ∷ d ∷ ys) l h =
+    let p = h 0 0 (omega arith) (omega arith) in
+    let q = h 0 1 (omega arith) (omega arith) in
+    let r = h 0 2 (omega arith) (omega arith) in
+    let s = h 0 3 (omega arith) (omega arith) in
+    let rest = by_fours ws ys (omega arith) (λ i j u v. let at : suc (suc (suc (suc (4 * i + j)))) ≡ 4 * suc i + j = omega arith in
+    ap (λ n. get_or (a ∷ b ∷ c ∷ d ∷ ys) n 0) at ∙ h (suc i) j (omega arith) v) in
+    cc

@@ -5,9 +5,9 @@ use lib.Lanes.{zip2}
 use Rattle.std.proofs.lemmas.List.{take_more, take_more_set, take_all, get_or-take, length-append, length-take-le, set_at, append_assoc, drop_more, drop_all, get_or_at, get_or_append_left}
 use Rattle.std.proofs.lemmas.Simd.{get_or-zip2, length-zip2}
 use Rattle.sha256.specs.Standard.{◌⊞◌, SSIG0, SSIG1, K, word_at, first_words, schedule}
-use Rattle.sha256.specs.Steps.{column, keys_of, EndsInZero}
+use Rattle.sha256.specs.Steps.{column, keys_of}
 use Rattle.sha256.proofs.Ahead.{length_K}
-use Rattle.sha256.proofs.Lanewise.{column_set, ends_set}
+use Rattle.sha256.proofs.Lanewise.{column_set}
 
 pub length-first_words : (n : ℕ) (bs : List ℕ) → length (first_words n bs) ≡ n
 unfolding first_words
@@ -66,19 +66,17 @@ schedule_first (suc n) k bs h = get_or_append_left (schedule n bs) _ 0 k (omega 
 -- four lanes, in which the first t words of the blocks f stand
 pub record Begun (t : ℕ) (f : ℕ → List ℕ) (ks : List (List ℕ)) : Type 0 where
   pub long : length ks ≡ 65
-  pub ends : EndsInZero ks
   pub words : (l : ℕ) → l < 4 → take t (column l ks) ≡ first_words t (f l)
 
-pub begun_none : (f : ℕ → List ℕ) (ks : List (List ℕ)) → length ks ≡ 65 → EndsInZero ks → Begun 0 f ks
+pub begun_none : (f : ℕ → List ℕ) (ks : List (List ℕ)) → length ks ≡ 65 → Begun 0 f ks
 unfolding first_words
-begun_none f ks n e = record { long = n; ends = e; words = λ l h. refl }
+begun_none f ks n = record { long = n; words = λ l h. refl }
 
 pub begun_more : (t : ℕ) (f : ℕ → List ℕ) (ks : List (List ℕ)) (x : List ℕ) → t < 16 → Begun t f ks → ((l : ℕ) → l < 4 → get_or x l 0 ≡ word_at (f l) t) → Begun (t + 1) f (set ks t x)
 begun_more t f ks x n b e =
     let long = b.long in
     record {
       long = simp length-set b.long;
-      ends = ends_set ks t x (omega arith) b.ends;
       words = λ l h. ap (take (t + 1)) (column_set l ks t x) ∙ first_more (f l) (column l ks) t _ (simp length-map (omega arith)) (b.words l h) (e l h);
     }
 
@@ -88,18 +86,17 @@ begun_at t u f ks e b = subst (λ n. Begun n f ks) e b
 -- four lanes, in which the first t words are made where the first s were made before
 pub record Made (s t : ℕ) (was ks : List (List ℕ)) : Type 0 where
   pub long : length ks ≡ 65
-  pub ends : EndsInZero ks
   pub words : (l : ℕ) → l < 4 → (b : List ℕ) → take s (column l was) ≡ schedule (s - 16) b → take t (column l ks) ≡ schedule (t - 16) b
 
-pub made_none : (s t : ℕ) (ks : List (List ℕ)) → s ≡ t → length ks ≡ 65 → EndsInZero ks → Made s t ks ks
-made_none s t ks e n z = subst (λ u. Made s u ks ks) e (record { long = n; ends = z; words = λ l h b p. p })
+pub made_none : (s t : ℕ) (ks : List (List ℕ)) → s ≡ t → length ks ≡ 65 → Made s t ks ks
+made_none s t ks e n = subst (λ u. Made s u ks ks) e (record { long = n; words = λ l h b p. p })
 
 pub made_at : (s t u : ℕ) (was ks : List (List ℕ)) → t ≡ u → Made s t was ks → Made s u was ks
 made_at s t u was ks e m = subst (λ n. Made s n was ks) e m
 
 pub made_then : (s t u v : ℕ) (was mid ks : List (List ℕ)) → u ≡ v → Made s t was mid → Made t u mid ks → Made s v was ks
 made_then s t u v was mid ks e m n =
-    subst (λ k. Made s k was ks) e (record { long = n.long; ends = n.ends; words = λ l h b p. n.words l h b (m.words l h b p) })
+    subst (λ k. Made s k was ks) e (record { long = n.long; words = λ l h b p. n.words l h b (m.words l h b p) })
 
 pub made_more : (s t u : ℕ) (was ks : List (List ℕ)) (x : List ℕ) → 16 ≤ t → t < 64 → t + 1 ≡ u → Made s t was ks
     → ((l : ℕ) → l < 4 → get_or x l 0
@@ -110,7 +107,6 @@ made_more s t u was ks x a n e m f =
     subst (λ k. Made s k was (set ks t x)) e
     (record {
       long = simp length-set m.long;
-      ends = ends_set ks t x n m.ends;
       words =
           λ l h b p. ap (take (t + 1)) (column_set l ks t x)
           ∙ schedule_more b (column l ks) t _ a (simp length-map (omega arith)) (m.words l h b p) (f l h);
@@ -153,9 +149,10 @@ module _ (bs was : List ℕ) (whole : length was ≡ 65) where
       take_more Z t 0 (omega (arith, length_Z)) ∙ ap (λ y. take t Z ++ y ∷ []) (at_Z t l ∙ sym f) in
       put ∙ sym (ap (λ v. v ++ rest) next ∙ append_assoc (take t Z) (x ∷ []) rest)
 
-  pub keys_all : (col : List ℕ) (t : ℕ) → t ≡ 64 → get_or was 64 0 ≡ 0 → KeysTo t bs was col → col ≡ keys_of bs
+  -- and the 0 after them
+  pub keys_all : (col : List ℕ) (t : ℕ) → t ≡ 64 → KeysTo t bs was col → set col 64 0 ≡ keys_of bs
   unfolding keys_of
-  keys_all col t l z e =
-      e ∙ ap (λ n. take n Z ++ drop n was) l
-      ∙ ap₂ (λ v r. v ++ r) (take_all 64 Z (omega (arith, length_Z)))
-      (drop_more was 64 0 (omega arith) ∙ ap₂ (λ x r. x ∷ r) z (drop_all 65 was (omega arith)))
+  keys_all col t l e =
+      let whole-Z : take 64 Z ≡ Z = take_all 64 Z (omega (arith, length_Z)) in
+      ap (λ c. set c 64 0) (e ∙ ap (λ n. take n Z ++ drop n was) l ∙ ap₂ (λ v r. v ++ r) whole-Z (drop_more was 64 0 (omega arith)))
+      ∙ set_at Z (get_or was 64 0) (drop 65 was) 0 64 length_Z ∙ ap (λ r. Z ++ 0 ∷ r) (drop_all 65 was (omega arith))

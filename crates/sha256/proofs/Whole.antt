@@ -3,9 +3,8 @@ use Rattle.std.proofs.Common.{◌≡◌, ℕ, zero, suc, ◌+◌, ◌*◌, ◌<�
 use Rattle.std.proofs.lemmas.List.{take_more, at_drop_more, at_drop_all, nil_from_length, take-append-le, drop-append-le, length-drop, length-take, take-append-drop, append-nil, append_assoc, drop-drop}
 use Rattle.std.specs.List.{flat_map}
 use Rattle.std.specs.Simd.{first_chunks}
-use Rattle.sha256.specs.Standard.{compress, schedule, plus, blocks, hashed}
+use Rattle.sha256.specs.Standard.{Words, compress, schedule, plus, blocks, hashed}
 use Rattle.sha256.specs.Steps.{column, keys_of, ahead, under_lanes}
-use Rattle.sha256.specs.declared.words.Words.{Words}
 use Rattle.sha256.proofs.Ahead.{ahead_is_rounds}
 use Rattle.sha256.proofs.Scheduled.{length-schedule}
 

@@ -1,7 +1,11 @@
 -- SHA-256 as RFC 6234 defines it, with its names, for messages of whole bytes.
 -- A word is a number below 2 ^ 32, a byte one below 256, and a message a list of bytes.
 use Rattle.std.specs.Prelude.{ℕ, zero, suc, ◌+◌, ◌-◌, ◌*◌, ◌/◌, ◌%◌, ◌^◌, List, [], ◌∷◌, ◌++◌, length, take, drop, replicate, bit_and, bit_or, bit_xor, slice_index, slice_index_or}
-use Rattle.sha256.specs.declared.words.Words.{Words}
+use Rattle.sha256.specs.declared.words.Words as declared
+
+-- the words a to h
+abbrev pub Words : Type 0
+Words = declared.Words ℕ
 
 -- ---- operations on words
 

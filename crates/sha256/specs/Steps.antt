@@ -1,9 +1,8 @@
 -- The form in which the code goes through the rounds: each word of the schedule has its constant added beforehand,
 -- which makes it a key, and a key is added to `h` one round ahead.
-use Rattle.std.specs.Prelude.{◌≡◌, ℕ, zero, suc, ◌<◌, List, [], ◌∷◌, ◌++◌, map, slice_index, slice_index_or}
+use Rattle.std.specs.Prelude.{ℕ, zero, suc, List, [], ◌∷◌, ◌++◌, map, slice_index, slice_index_or}
 use Rattle.std.specs.Simd.Lanes.{zip2}
-use Rattle.sha256.specs.Standard.{◌⊞◌, CH, MAJ, BSIG0, BSIG1, K, schedule, plus}
-use Rattle.sha256.specs.declared.words.Words.{Words}
+use Rattle.sha256.specs.Standard.{Words, ◌⊞◌, CH, MAJ, BSIG0, BSIG1, K, schedule, plus}
 
 -- the keys of a block, and the 0 that the last round adds ahead
 unfoldable pub keys_of : List ℕ → List ℕ
@@ -12,10 +11,6 @@ keys_of bs = zip2 ◌⊞◌ K (schedule 48 bs) ++ 0 ∷ []
 -- one lane of the keys of four blocks
 abbrev pub column : ℕ → List (List ℕ) → List ℕ
 column l ks = map (λ k. slice_index k l) ks
-
--- after the keys there is a 0 in each lane
-abbrev pub EndsInZero : List (List ℕ) → Type 0
-EndsInZero ks = (l : ℕ) → l < 4 → slice_index (column l ks) 64 ≡ 0
 
 -- a round of words with its key in their `h` already, and the `h` that comes after it
 unfoldable pub turned : Words → ℕ → Words

@@ -10,9 +10,10 @@ use crate::padding::padded_end;
 use crate::words::Words;
 
 // Of the bytes so far, whole blocks have gone into `words`, and the others stand first in `buffer`.
+// Its memory is fixed, since a hasher asks no allocator; how much is filled follows from the count.
 #[derive(Drop)]
 pub struct Hasher {
-    words: Words,
+    words: Words<u32>,
     // How many bytes there were, modulo 2^64.
     count: u64,
     buffer: [u8; 64],
@@ -77,9 +78,12 @@ impl Hasher {
         ensures { (m : List ℕ) → Fed m self → result ≡ digest m }
     {
         let filled = self.filled();
+        let rest = &self.buffer[..filled];
+        let bits = self.count.wrapping_mul(8);
         // What is left, a byte and eight more, in one block or two.
-        let end = (filled + 9 + 63) / 64 * 64;
-        let tail = padded_end(&self.buffer[0..filled], end, self.count.wrapping_mul(8));
-        compressed(self.words, &tail[0..end]).to_bytes()
+        if filled < 56 {
+            return compressed(self.words, &padded_end::<64>(rest, bits)).to_bytes();
+        }
+        compressed(self.words, &padded_end::<128>(rest, bits)).to_bytes()
     }
 }

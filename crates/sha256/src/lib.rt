@@ -9,13 +9,14 @@ mod block;
 mod bytes;
 mod constants;
 mod four;
+mod functions;
 mod hasher;
-mod lanes;
 mod node;
 mod padding;
 mod round;
 mod schedule;
 mod theorems;
+mod word;
 mod words;
 
 pub use four::sha256_four;

@@ -21,6 +21,6 @@ pub fn sha256_pair(tag: u8, left: &[u8; 32], right: &[u8; 32]) -> [u8; 32]
     ensures { result ≡ digest (tag ∷ (left.now ++ right.now)) }
 {
     let message = tagged(tag, left, right);
-    let blocks = padded_end(&message, 128, 8 * 65);
+    let blocks = padded_end::<128>(&message, 8 * 65);
     compressed(Words::FIRST, &blocks).to_bytes()
 }

@@ -3,92 +3,76 @@
 // A round's key is its word of the schedule with its constant added. The longest chain of sums of a
 // round starts at `h`, so the key is added to `h` one round before, beside the chain: such words are
 // called loaded.
-ghost use Rattle.std.specs.Prelude.{◌≡◌, ◌<◌, ◌≤◌, slice_index};
-ghost use Rattle.sha256.specs.Standard.{CH, MAJ, BSIG0, BSIG1, plus};
+ghost use Rattle.std.specs.Prelude.{◌≡◌, ℕ, ◌<◌, ◌≤◌, slice_index};
+ghost use Rattle.std.specs.Fn.{FnReturnsAt};
+ghost use Rattle.sha256.specs.Standard.{◌⊞◌, plus};
 ghost use Rattle.sha256.specs.Steps.{turned, ahead, column, under_lanes};
+ghost use Rattle.sha256.specs.Lanes.{lane_of, TakesLane};
 
+use crate::functions::{big_sigma_0, big_sigma_1, majority};
+use crate::word::Word;
 use crate::words::Words;
 use std::simd::prelude::*;
 
-// `x` chooses each bit from `y` or `z`.
-fn choose(x: u32, y: u32, z: u32) -> u32
-    ensures { result ≡ CH x y z }
-{
-    z ^ (x & (y ^ z))
-}
-
-fn majority(x: u32, y: u32, z: u32) -> u32
-    ensures { result ≡ MAJ x y z }
-{
-    (x & y) ^ (x & z) ^ (y & z)
-}
-
-fn big_sigma_0(x: u32) -> u32
-    ensures { result ≡ BSIG0 x }
-{
-    x.rotate_right(2) ^ x.rotate_right(13) ^ x.rotate_right(22)
-}
-
-fn big_sigma_1(x: u32) -> u32
-    ensures { result ≡ BSIG1 x }
-{
-    x.rotate_right(6) ^ x.rotate_right(11) ^ x.rotate_right(25)
-}
-
-// The round of loaded words, whose last word is then `h`.
-fn turn(s: Words, h: u32) -> Words
-    ensures { result ≡ turned s h }
-{
-    let t1 = s
-        .h
-        .wrapping_add(big_sigma_1(s.e))
-        .wrapping_add(choose(s.e, s.f, s.g));
-    let t2 = big_sigma_0(s.a).wrapping_add(majority(s.a, s.b, s.c));
-    Words {
-        a: t1.wrapping_add(t2),
-        b: s.a,
-        c: s.b,
-        d: s.c,
-        e: s.d.wrapping_add(t1),
-        f: s.e,
-        g: s.f,
-        h,
-    }
-}
-
-fn key(keys: &[u32x4; 65], t: usize, lane: usize) -> u32
-    requires { (t < 65) × (lane < 4) }
-    ensures { result ≡ slice_index (column lane keys.now) t }
-{
-    keys[t].as_array()[lane]
-}
-
-// The hash value after the block whose keys are in one lane of `keys`.
-fn hashed_under(words: Words, keys: &[u32x4; 65], lane: usize) -> Words
-    requires { lane < 4 }
-    ensures { result ≡ plus words (ahead 64 (column lane keys.now) words) }
-{
-    let mut s = Words {
-        h: words.h.wrapping_add(key(keys, 0, lane)),
-        ..words
-    };
-    // Two loops, since the inner one is then unrolled.
-    for i in 0..8 {
-        for j in 0..8 {
-            s = turn(s, s.g.wrapping_add(key(keys, 8 * i + j + 1, lane)));
+impl<W: Word> Words<W> {
+    // The round of loaded words; `key` is loaded for the next.
+    #[tactic(auto, unfolding(crate::specs::Steps::turned))]
+    fn turn(self, key: W) -> Self
+        ensures { (l : ℕ) → l < W.lanes → lane_of (W.lane l) result ≡ turned (lane_of (W.lane l) self) (W.lane l self.g ⊞ W.lane l key) }
+    {
+        let h = self.g.sum(key);
+        let t1 = self
+            .h
+            .sum(big_sigma_1(self.e))
+            .sum(self.e.choose(self.f, self.g));
+        let t2 = big_sigma_0(self.a).sum(majority(self.a, self.b, self.c));
+        Words {
+            a: t1.sum(t2),
+            b: self.a,
+            c: self.b,
+            d: self.c,
+            e: self.d.sum(t1),
+            f: self.e,
+            g: self.f,
+            h,
         }
     }
-    words.sum(s)
+
+    // The hash values after the blocks whose keys `own` takes out of those of four: of lane `m` for lane `l`.
+    pub(crate) fn hashed_under<F: Fn(&u32x4) -> W>(self, keys: &[u32x4; 65], own: F) -> Self
+        requires { F.IsAlwaysCallable own }
+        ensures { (l m : ℕ) → l < W.lanes → TakesLane (W.lane l) m (FnReturnsAt F.Fn own) → lane_of (W.lane l) result ≡ plus (lane_of (W.lane l) self) (ahead 64 (column m keys.now) (lane_of (W.lane l) self)) }
+    {
+        let mut s = Words {
+            h: self.h.sum(own(&keys[0])),
+            ..self
+        };
+        // By eights, since the inner loop is then unrolled.
+        let (eights, _) = keys[1..].as_chunks::<8>();
+        for eight in eights {
+            for key in eight {
+                s = s.turn(own(key));
+            }
+        }
+        self.sum(s)
+    }
 }
 
 // The hash value after the blocks whose keys are in the first `count` lanes, one after the other.
-pub(crate) fn hashed_under_lanes(words: Words, keys: &[u32x4; 65], count: usize) -> Words
+pub(crate) fn hashed_under_lanes(words: Words<u32>, keys: &[u32x4; 65], count: usize) -> Words<u32>
     requires { count ≤ 4 }
     ensures { result ≡ under_lanes count keys.now words }
 {
     let mut words = words;
+    // By lane: nothing goes over lanes, one is taken out of each key.
     for lane in 0..count {
-        words = hashed_under(words, keys, lane);
+        words = words.hashed_under(
+            keys,
+            |four: &u32x4| -> u32
+                requires { lane < 4 }
+                ensures { result ≡ slice_index four.now lane }
+            { four.as_array()[lane] },
+        );
     }
     words
 }

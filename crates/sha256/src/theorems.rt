@@ -11,6 +11,7 @@ pub fn digest_len() -> usize
     256 / 8
 }
 
+// Each published digest is a theorem of its own.
 pub fn abc_digest() -> [u8; 32]
     ensures { result ≡ digest (codes "abc") }
 {

@@ -1,9 +1,8 @@
 use Rattle.std.proofs.Common.{◌≡◌, drop}
 use Rattle.sha256.specs.Standard.{hashed}
-use Rattle.sha256.specs.Steps.{EndsInZero}
 use Rattle.sha256.proofs.Whole.{singles}
 use Rattle.sha256.proofs.block.compressed.Given as goal
 
 abbrev pub invariant-loop-four : goal.invariant-loop-four
 invariant-loop-four l =
-    EndsInZero l.keys × (hashed l.words (singles (drop l.four-index l.fours)) ≡ hashed l.initial.words (singles l.fours))
+    hashed l.words (singles (drop l.four-index l.fours)) ≡ hashed l.initial.words (singles l.fours)

@@ -8,9 +8,8 @@ pub returns : goal.returns
 returns c =
     let four = c.args.four.now in
     let value : c.hashed_under_lanes.result ≡ hashed c.args.words (take c.args.count four) =
-    c.hashed_under_lanes.ensures ∙ lanes_hash c.args.count _ four c.args.words (omega arith) (λ l h. c.fill_keys.ensures.filled l (omega arith)) in
+    c.hashed_under_lanes.ensures ∙ lanes_hash c.args.count _ four c.args.words (omega arith) (λ l h. c.fill_keys.ensures l (omega arith)) in
     record {
       value = value;
       all = λ e. value ∙ ap (hashed c.args.words) (take_all c.args.count four (omega arith));
-      ends = c.fill_keys.ensures.ends;
     }

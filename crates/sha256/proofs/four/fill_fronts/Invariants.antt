@@ -3,4 +3,4 @@ use Rattle.sha256.proofs.Scheduled.{Begun}
 use Rattle.sha256.proofs.four.fill_fronts.Given as goal
 
 abbrev pub invariant-loop-t : goal.invariant-loop-t
-invariant-loop-t l = Begun l.t (λ i. l.tag ∷ take 63 (get_or l.pairs i [])) l.keys
+invariant-loop-t l = Begun l.t-counter (λ i. l.fn.tag ∷ take 63 (get_or l.pairs i [])) l.keys

@@ -3,4 +3,4 @@ use Rattle.sha256.specs.Steps.{under_lanes}
 use Rattle.sha256.proofs.round.hashed_under_lanes.Given as goal
 
 abbrev pub invariant-loop-lane : goal.invariant-loop-lane
-invariant-loop-lane l = l.words ≡ under_lanes l.lane l.keys l.initial.words
+invariant-loop-lane l = l.words ≡ under_lanes l.lane-counter l.keys l.initial.words

@@ -3,4 +3,4 @@ use Rattle.sha256.proofs.Scheduled.{Begun}
 use Rattle.sha256.proofs.schedule.fill_keys.Given as goal
 
 abbrev pub invariant-loop-t : goal.invariant-loop-t
-invariant-loop-t l = Begun l.t (λ i. get_or l.blocks i []) l.keys
+invariant-loop-t l = Begun l.t-counter (λ i. get_or l.blocks i []) l.keys

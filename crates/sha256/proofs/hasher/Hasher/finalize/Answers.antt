@@ -1,11 +1,13 @@
-use Rattle.std.proofs.Common.{◌+◌, ◌*◌, ◌/◌, take, refl, ◌∙◌}
-use native.Mathlib.Nat.{sub-zero}
+use Rattle.std.proofs.Common.{◌∙◌, arith}
 use Rattle.sha256.proofs.Ending.{finished}
 use Rattle.sha256.proofs.hasher.Hasher.finalize.Goals as goal
 
+pub returns-then-filled-lt56 : goal.returns-then-filled-lt56
+returns-then-filled-lt56 c =
+    λ m f. c.to_bytes.ensures
+    ∙ finished m c.args.self f c.filled-filled.result 64 _ _ c.filled-filled.ensures (omega arith) c.padded_end.ensures c.compressed.ensures
+
 pub returns : goal.returns
 returns c =
-    let filled = c.filled-filled.result in
-    let e = (filled + 9 + 63) / 64 * 64 in
-    λ m f. c.to_bytes.ensures
-    ∙ finished m c.args.self f filled e (take e c.padded_end-tail.result) c.compressed.result c.filled-filled.ensures refl (simp sub-zero at c.padded_end-tail.ensures) (simp sub-zero at c.compressed.ensures)
+    λ m f. c.to_bytes-2.ensures
+    ∙ finished m c.args.self f c.filled-filled.result 128 _ _ c.filled-filled.ensures (omega arith) c.padded_end-2.ensures c.compressed-2.ensures
