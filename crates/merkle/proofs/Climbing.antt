@@ -1,10 +1,10 @@
 -- The way up by one level, and what a step down adds to the way up.
-use Rattle.std.proofs.Common.{◌≡◌, ℕ, ◌+◌, ◌-◌, ◌*◌, ◌/◌, ◌%◌, ◌<◌, ◌≤◌, Bool, true, false, eqb, List, [], ◌∷◌, ◌++◌, reverse, length, get_or, take, drop, sym, refl, ap, ◌∙◌, subst, ap₂, inl, inr, arith}
+use Rattle.std.proofs.Common.{◌≡◌, ℕ, zero, suc, ◌+◌, ◌-◌, ◌*◌, ◌/◌, ◌%◌, ◌<◌, ◌≤◌, Bool, true, false, eqb, List, [], ◌∷◌, ◌++◌, reverse, length, get_or, take, drop, sym, refl, ap, ◌∙◌, subst, ap₂, inl, inr, arith}
 use Rattle.std.proofs.lemmas.List.{take_more, take_all, drop_more, drop_all, reverse-append}
 use Rattle.merkle_theory.specs.Tree.{split}
 use Rattle.merkle.specs.declared.way.Way.{Way}
-use Rattle.merkle.specs.Ways.{climbed}
-use Rattle.merkle.proofs.Sizes.{OneDown}
+use Rattle.merkle.specs.Ways.{AtRoot, Below, Downs, climbed}
+use Rattle.merkle.proofs.Sizes.{level_below}
 
 reverse-take_more : {D : Type 0} (ps : List D) (i : ℕ) (d : D) → i < length ps → reverse (take (i + 1) ps) ≡ get_or ps i d ∷ reverse (take i ps)
 reverse-take_more ps i d l = ap reverse (take_more ps i d l) ∙ reverse-append (take i ps) (get_or ps i d ∷ [])
@@ -16,15 +16,6 @@ climbed_as up over f h t [] x = refl
 climbed_as up over f h t (p ∷ ps) x = ap (climbed over (t / 2) ps) (sym (h (eqb (t % 2) 1) p x)) ∙ climbed_as up over f h (t / 2) ps (up (eqb (t % 2) 1) p x)
 
 module _ {D X : Type 0} (up : Bool → D → X → X) where
-  -- one level up, where i are left
-  pub climb_on : (t i : ℕ) (ps : List D) (d : D) (x x' y : X) → 0 < i → i ≤ length ps → x' ≡ up (eqb (t % 2) 1) (get_or ps (i - 1) d) x →
-      climbed up t (reverse (take i ps)) x ≡ y → climbed up (t / 2) (reverse (take (i - 1) ps)) x' ≡ y
-  climb_on t i ps d x x' y pos l risen known =
-      let here : i - 1 + 1 ≡ i = omega arith in
-      ap (climbed up (t / 2) (reverse (take (i - 1) ps))) risen
-      ∙ (ap (λ rs. climbed up t rs x) (sym (reverse-take_more ps (i - 1) d (omega arith)))
-      ∙ (ap (λ k. climbed up t (reverse (take k ps)) x) here ∙ known))
-
   -- what each level keeps stays
   climbed_same : (t : ℕ) (ps : List D) (x : X) → ((side : Bool) (p : D) → up side p x ≡ x) → climbed up t ps x ≡ x
   climbed_same t [] x h = refl
@@ -60,20 +51,25 @@ module _ {D X : Type 0} (up : Bool → D → X → X) where
     abbrev pub OnWay : (List D → X) → ℕ → Way → Type 0
     OnWay f levels w = Reached f levels w.turns w.levels (G w.count w.place w.turns)
 
-    pub on_down : (f : List D → X) (levels : ℕ) (w v : Way) → w.levels < levels → OneDown w v →
+    -- where no level was gone yet
+    pub on_root : (f : List D → X) (levels n m : ℕ) (w : Way) → AtRoot n m w → ((ps : List D) → f ps ≡ G n m 0 ps) → OnWay f levels w
+    on_root f levels n m w (en, em, el, et) is ps e = is ps ∙ sym (λ i. climbed up (et i) (reverse (take (el i) ps)) (G (en i) (em i) (et i) (drop (el i) ps)))
+
+    pub on_down : (f : List D → X) (levels : ℕ) (w v : Way) → w.levels < levels → Below w v →
         ((p : D) (ps : List D) → w.place < split w.count → G w.count w.place w.turns (p ∷ ps) ≡ up false p (G (split w.count) w.place (w.turns * 2) ps)) →
         ((p : D) (ps : List D) → split w.count ≤ w.place →
         G w.count w.place w.turns (p ∷ ps) ≡ up true p (G (w.count - split w.count) (w.place - split w.count) (w.turns * 2 + 1) ps)) →
         OnWay f levels w → OnWay f levels v
-    on_down f levels w v more (side, level) to_left to_right known =
-        subst (λ i. Reached f levels v.turns i h) (sym level) (elim side [
-          | inl (here, en, em, et) ↦
-              subst (λ t. Reached f levels t (w.levels + 1) h) (omega arith)
-              (reached_more f g h levels w.turns 0 w.levels more (omega arith) (λ p ps. to_left p ps here ∙ sym (λ i. up false p (G (en i) (em i) (et i) ps))) known)
-          | inr (here, en, em, et) ↦
-              subst (λ t. Reached f levels t (w.levels + 1) h) (sym et)
-              (reached_more f g h levels w.turns 1 w.levels more (omega arith) (λ p ps. to_right p ps here ∙ sym (λ i. up true p (G (en i) (em i) (et i) ps))) known)
-        ])
+    on_down f levels w v more below to_left to_right known = elim below [
+      | inl (here, en, em, et, el) ↦
+          subst (λ i. Reached f levels v.turns i h) (sym el)
+          (subst (λ t. Reached f levels t (w.levels + 1) h) (omega arith)
+          (reached_more f g h levels w.turns 0 w.levels more (omega arith) (λ p ps. to_left p ps here ∙ sym (λ i. up false p (G (en i) (em i) (et i) ps))) known))
+      | inr (here, en, em, et, el) ↦
+          subst (λ i. Reached f levels v.turns i h) (sym el)
+          (subst (λ t. Reached f levels t (w.levels + 1) h) (sym et)
+          (reached_more f g h levels w.turns 1 w.levels more (omega arith) (λ p ps. to_right p ps here ∙ sym (λ i. up true p (G (en i) (em i) (et i) ps))) known))
+    ]
       where
         g : List D → X
         g = G w.count w.place w.turns
@@ -93,6 +89,14 @@ module _ {D X : Type 0} (up : Bool → D → X → X) where
         (ps : List D) → length ps ≡ levels → G w.count w.place w.turns (drop w.levels ps) ≡ x → f ps ≡ x
     on_fixed f levels w x stays known ps e here =
         known ps e ∙ (ap (climbed up w.turns (reverse (take w.levels ps))) here ∙ climbed_same w.turns (reverse (take w.levels ps)) x stays)
+
+-- what each level keeps holds at the end
+pub all_down : (P Q : Way → Type 0) (levels : ℕ) → ((w v : Way) → P w → w.levels < levels → Below w v → Q w → Q v) →
+    (k : ℕ) (w v : Way) → Downs P k w v → v.levels ≤ levels → Q w → Q v
+all_down P Q levels step zero w v e l known = subst Q (sym e) known
+all_down P Q levels step (suc k) w v (u, before, p, below) l known =
+    let level = level_below u v below in
+    step u v p (omega arith) below (all_down P Q levels step k w u before (omega arith) known)
 
 -- the digests that are left
 pub none_left : {D : Type 0} (ps : List D) (i levels : ℕ) → length ps ≡ levels → i ≡ levels → drop i ps ≡ []

@@ -1,5 +1,6 @@
 -- Following a consistency proof: the way down to where the earlier tree ends, and the way up from there, give what the definition says.
-use Rattle.std.proofs.Common.{◌≡◌, ℕ, ◌+◌, ◌-◌, ◌*◌, ◌<◌, ◌≤◌, Bool, true, false, cond, eqb, ltb, List, [], ◌∷◌, ◌++◌, reverse, length, take, drop, Some, None, Option, sym, refl, ap, ◌∙◌, ap₂, inl, inr, arith, length-drop, le-ltb, lt-ltb, eq-eqb, ne_eqb}
+use Rattle.std.proofs.Common.{◌≡◌, ℕ, ◌+◌, ◌-◌, ◌*◌, ◌<◌, ◌≤◌, Bool, true, false, cond, eqb, ltb, List, [], ◌∷◌, ◌++◌, reverse, length, take, drop, Some, None, Option, sym, refl, ap, ◌∙◌, subst, ap₂, inl, inr, arith, length-drop, le-ltb, lt-ltb, eq-eqb, ne_eqb}
+use Rattle.std.specs.Bool.{then_some}
 use Rattle.std.proofs.lemmas.List.{reverse-append}
 use Rattle.std.proofs.lemmas.Bool.{cases_lt, cases_eq}
 use Rattle.merkle_theory.specs.Tree as tree
@@ -9,10 +10,10 @@ use Rattle.merkle.specs.declared.digest.Digest.{Digest}
 use Rattle.merkle.specs.declared.roots.Roots.{Roots}
 use Rattle.merkle.specs.declared.way.Way.{Way}
 use Rattle.merkle.specs.Digests.{node_of}
-use Rattle.merkle.specs.Ways.{climbed}
-use Rattle.merkle.specs.Consistency.{roots_of, both, over_proof, roots_above, TurnsToLast}
-use Rattle.merkle.proofs.Sizes.{OneDown, left_of_few}
-use Rattle.merkle.proofs.Climbing.{OnWay, on_down, on_end, on_fixed, none_left, one_left, climbed_as}
+use Rattle.merkle.specs.Ways.{AtRoot, Below, Down, climbed}
+use Rattle.merkle.specs.Consistency.{roots_of, as_roots, both, over_proof, roots_above, TurnsToLast}
+use Rattle.merkle.proofs.Sizes.{left_of_few}
+use Rattle.merkle.proofs.Climbing.{OnWay, on_root, on_down, all_down, on_end, on_fixed, none_left, one_left, climbed_as}
 
 abbrev follow : ℕ → ℕ → Bool → Digest → List Digest → Option (tree.Roots Digest)
 follow m n whole old ps = roots_from_consistency node_of m n whole old ps
@@ -49,12 +50,11 @@ none_before_some n whole old (p ∷ ps) h =
     consistency-goes_left node_of 0 n whole old p ps h (omega arith)
     ∙ ap (later_only node_of p) (none_before_some (split n) whole old ps (split_some n h))
 
-pub none_before_none : (n : ℕ) (old : Digest) (ps : List Digest) → n ≡ 0 → (length ps ≡ 0 → ⊥) → follow 0 n true old ps ≡ None
-none_before_none n old ps e h = ap (λ k. follow 0 k true old ps) e ∙ whole_refused 0 old ps h
-
-pub none_at_all : (n : ℕ) (old : Digest) (ps : List Digest) → n ≡ 0 → length ps ≡ 0 → follow 0 n true old ps ≡ Some (roots_of (both old))
-none_at_all n old [] e l = ap (λ k. follow 0 k true old []) e ∙ consistency-ends_whole node_of 0 old
-none_at_all n old (p ∷ ps) e l = absurd (omega arith)
+pub from_none : (n : ℕ) (old : Digest) (ps : List Digest) → n ≡ 0 → follow 0 n true old ps ≡ as_roots (then_some (eqb (length ps) 0) (both old))
+from_none n old [] e = ap (λ k. follow 0 k true old []) e ∙ consistency-ends_whole node_of 0 old
+from_none n old (p ∷ ps) e =
+    ap (λ k. follow 0 k true old (p ∷ ps)) e
+    ∙ (whole_refused 0 old (p ∷ ps) (λ z. omega arith) ∙ sym (ap (λ b. as_roots (then_some b (both old))) (ne_eqb (length (p ∷ ps)) 0 (λ z. omega arith))))
 
 pub proof_outside : (n m levels : ℕ) → n ≤ m → TurnsToLast n m levels None
 proof_outside n m levels h old proof l = consistency-of_fewer node_of (m + 1) n true old proof (omega arith)
@@ -103,7 +103,7 @@ module _ (n m levels : ℕ) (w : Way) (known : OnProof n m levels w) where
       (ap (rest old w.count w.place w.turns) (none_left proof w.levels levels l e)
       ∙ consistency-ends_early node_of (w.place + 1) w.count (eqb w.turns 0) old inner)
 
-  pub proof_down : (v : Way) → (w.place + 1 ≡ w.count → ⊥) → w.levels < levels → OneDown w v → OnProof n m levels v
+  pub proof_down : (v : Way) → (w.place + 1 ≡ w.count → ⊥) → w.levels < levels → Below w v → OnProof n m levels v
   proof_down v inner more down old =
       let before : w.place + 1 < w.count = omega arith in
       on_down proof_up (rest old) (follow (m + 1) n true old) levels w v more down
@@ -146,3 +146,15 @@ module _ (n m levels : ℕ) (w : Way) (known : OnProof n m levels w) where
             at_end end old (drop w.levels proof) true (eq-eqb w.turns 0 (omega arith))
             ∙ whole_refused w.count old (drop w.levels proof) (λ none. unfit (rw (le-ltb 0 w.turns whole) (omega (arith, length-drop w.levels proof))))
       ])
+
+-- all the way down, from the root on
+pub proof_reached : (P : Way → Type 0) (n m levels : ℕ) → ((w : Way) → P w → w.place + 1 ≡ w.count → ⊥) → (w v : Way) → AtRoot n m w → Down P w v → v.levels ≤ levels → OnProof n m levels v
+proof_reached P n m levels inner w v root (k, downs) =
+    λ l. all_down P (OnProof n m levels) levels (λ w v p more below known. proof_down n m levels w known v (inner w p) more below) k w v downs l
+    (λ old. on_root proof_up (rest old) (follow (m + 1) n true old) levels n m w root (λ ps. refl))
+
+pub proof_fits : (n m levels : ℕ) (w : Way) → OnProof n m levels w → w.place + 1 ≡ w.count → w.levels ≤ levels → TurnsToLast n m levels (then_some (eqb (length_at w) levels) w.turns)
+proof_fits n m levels w known end within = elim (cases_eq (length_at w) levels) [
+  | inl e ↦ subst (λ b. TurnsToLast n m levels (then_some b w.turns)) (sym (eq-eqb (length_at w) levels e)) (proof_right n m levels w known end e)
+  | inr e ↦ subst (λ b. TurnsToLast n m levels (then_some b w.turns)) (sym (ne_eqb (length_at w) levels e)) (proof_wrong n m levels w known end e within)
+]

@@ -1,5 +1,5 @@
 -- Rows of digests: a row as its elements, and the roots of parts that are twice as large.
-use Rattle.std.proofs.Common.{◌≡◌, ℕ, zero, suc, ◌+◌, ◌-◌, ◌*◌, ◌/◌, ◌<◌, ◌≤◌, List, [], ◌∷◌, ◌++◌, length, get_or, take, drop, sym, refl, ap, ◌∙◌, ap₂, suc-mul, zero-mul, arith, lit<, length-append, length-drop, length-take-le, drop-cons, take-add, pow_pos}
+use Rattle.std.proofs.Common.{◌≡◌, ℕ, zero, suc, ◌+◌, ◌-◌, ◌*◌, ◌/◌, ◌<◌, ◌≤◌, List, [], ◌∷◌, ◌++◌, length, get_or, take, drop, sym, refl, ap, ◌∙◌, ap₂, suc-mul, zero-mul, arith, lit<, length-drop, length-take-le, drop-cons, take-add, pow_pos}
 use borrow.Rule.Slice.PartMut.{put_mid}
 use Rattle.std.proofs.lemmas.List.{take_at, take_all, take-take, drop_at, drop_all, drop-drop, drop-take, append-nil}
 use Rattle.sha256.specs.Standard.{digest}
@@ -23,20 +23,18 @@ pub spelled : {X : Type 0} (n : ℕ) (xs : List X) (d : X) → length xs ≡ n �
 spelled n xs d e = spell_from n 0 xs d (omega arith)
 
 -- the digests that are made of four pairs of neighbours are the nodes over them
-pub nodes_of_eight : (ds : List Digest) (made pairs : List (List ℕ)) → length ds ≡ 8 → ((l : ℕ) → l < 4 → get_or made l [] ≡ digest (1 ∷ get_or pairs l [])) →
-    pairs ≡ pair_at ds 0 ∷ (pair_at ds 2 ∷ (pair_at ds 4 ∷ (pair_at ds 6 ∷ []))) →
-    record { bytes = get_or made 0 [] } ∷ (record { bytes = get_or made 1 [] } ∷ (record { bytes = get_or made 2 [] } ∷ (record { bytes = get_or made 3 [] } ∷ []))) ≡ nodes_over ds
-nodes_of_eight ds made pairs long is e =
-    (λ i. record { bytes = text 0 (lit< tt) i } ∷ (record { bytes = text 1 (lit< tt) i } ∷ (record { bytes = text 2 (lit< tt) i } ∷ (record { bytes = text 3 (lit< tt) i } ∷ []))))
-    ∙ sym (ap nodes_over (spelled 8 ds (record { bytes = [] }) long))
+pub nodes_of_eight : (ds made : List Digest) (pairs : List (List ℕ)) → length ds ≡ 8 → length made ≡ 4 →
+    ((l : ℕ) → l < 4 → get_or made l (record { bytes = [] }) ≡ record { bytes = digest (1 ∷ get_or pairs l []) }) →
+    pairs ≡ pair_at ds 0 ∷ (pair_at ds 2 ∷ (pair_at ds 4 ∷ (pair_at ds 6 ∷ []))) → made ≡ nodes_over ds
+nodes_of_eight ds made pairs long four is e =
+    spelled 4 made (record { bytes = [] }) four
+    ∙ ((λ i. node 0 (lit< tt) i ∷ (node 1 (lit< tt) i ∷ (node 2 (lit< tt) i ∷ (node 3 (lit< tt) i ∷ []))))
+    ∙ sym (ap nodes_over (spelled 8 ds (record { bytes = [] }) long)))
   where
-    text : (l : ℕ) → l < 4 → get_or made l [] ≡ digest (1 ∷ get_or (pair_at ds 0 ∷ (pair_at ds 2 ∷ (pair_at ds 4 ∷ (pair_at ds 6 ∷ [])))) l [])
-    text l h = is l h ∙ ap (λ ps. digest (1 ∷ get_or ps l [])) e
+    node : (l : ℕ) → l < 4 → get_or made l (record { bytes = [] }) ≡ record { bytes = digest (1 ∷ get_or (pair_at ds 0 ∷ (pair_at ds 2 ∷ (pair_at ds 4 ∷ (pair_at ds 6 ∷ [])))) l []) }
+    node l h = is l h ∙ ap (λ ps. record { bytes = digest (1 ∷ get_or ps l []) }) e
 
 -- A second half is written behind the first.
-pub both_halves : (xs zs : List ℕ) → length xs ≡ 32 → length zs ≡ 32 → 64 ≤ length (xs ++ zs)
-both_halves xs zs e f = omega (arith, length-append xs zs)
-
 pub second_written : (xs zs ys : List ℕ) → length xs ≡ 32 → length zs ≡ 32 → put_mid 32 32 (xs ++ zs) ys ≡ xs ++ ys
 second_written xs zs ys e f =
     let none : drop 32 (drop 32 (xs ++ zs)) ≡ [] = ap (drop 32) (drop_at xs zs 32 e) ∙ drop_all 32 zs (omega arith) in

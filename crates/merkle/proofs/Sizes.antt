@@ -49,11 +49,9 @@ module _ (w : Way) (many : 2 ≤ w.count) where
       let up : 2 ^ (w.levels + 1) ≤ 2 ^ 64 = pow_mono deeper in
       omega (arith, turn_noted)
 
--- v is w one level down
-abbrev pub OneDown : Way → Way → Type 0
-OneDown w v = Below w.count w.place w.turns v.count v.place v.turns × (v.levels ≡ w.levels + 1)
+pub fewer_below : (w v : Way) → 2 ≤ w.count → Below w v → v.count < w.count
+fewer_below w v two below =
+    elim below [ inl (here, en, em, et, el) ↦ omega (arith, split_below w.count two) | inr (here, en, em, et, el) ↦ omega (arith, split_pos w.count two) ]
 
-pub fewer_below : (w v : Way) → (w.count ≡ 1 → ⊥) → OneDown w v → v.count < w.count
-fewer_below w v many (side, level) =
-    let two : 2 ≤ w.count = omega arith in
-    elim side [ inl (here, en, em, et) ↦ omega (arith, split_below w.count two) | inr (here, en, em, et) ↦ omega (arith, split_pos w.count two) ]
+pub level_below : (w v : Way) → Below w v → v.levels ≡ w.levels + 1
+level_below w v below = elim below [ inl (here, en, em, et, el) ↦ el | inr (here, en, em, et, el) ↦ el ]

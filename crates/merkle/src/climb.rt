@@ -9,7 +9,7 @@ use crate::digest::Digest;
 pub(crate) trait Rise: Copy {
     ghost raised: { Bool → Beside → Self → Self };
 
-    // From the right side or the left, with the digest of the other side.
+    // From the right side or the left, with the digest of the other side. The side is a turn of the way, of which there is a row.
     fn rise(self, right: bool, beside: &Digest) -> Self
         ensures { result ≡ raised right beside.now self };
 }
@@ -20,10 +20,8 @@ pub(crate) fn climb<T: Rise>(start: T, turns: u64, beside: &[Digest]) -> T
 {
     let mut risen = start;
     let mut ahead = turns;
-    let mut level = beside.len();
-    while level > 0 {
-        level -= 1;
-        risen = risen.rise(ahead % 2 == 1, &beside[level]);
+    for digest in beside.iter().rev() {
+        risen = risen.rise(ahead % 2 == 1, digest);
         ahead /= 2;
     }
     risen

@@ -55,21 +55,15 @@ pub fn consistency_leads(
 ) -> bool
     ensures { Decides result (ConsistencyLeads node_of from to earlier.now later.now proof.now) }
 {
-    match roots_from_consistency(from, to, earlier, proof) {
-        Some(found) => found.earlier == *earlier && found.later == *later,
-        None => false,
-    }
+    roots_from_consistency(from, to, earlier, proof).is_some_and(|found| found.earlier == *earlier
+        && found.later == *later)
 }
 
 // Where there were no leaves, all that a proof can say is that there are none.
 fn roots_from_none(to: u64, earlier: &Digest, proof: &[Digest]) -> Option<Roots>
     ensures { as_roots result ≡ roots_from_consistency node_of 0 to true earlier.now proof.now }
 {
-    if to == 0 && proof.is_empty() {
-        Some(alike(earlier))
-    } else {
-        None
-    }
+    (to == 0 && proof.is_empty()).then_some(alike(earlier))
 }
 
 fn alike(root: &Digest) -> Roots
@@ -86,12 +80,9 @@ fn alike(root: &Digest) -> Roots
 fn roots_above(turns: u64, earlier: &Digest, proof: &[Digest]) -> Roots
     ensures { result ≡ roots_above turns earlier.now (reverse proof.now) }
 {
-    if turns == 0 {
-        return climb(alike(earlier), turns, proof);
-    }
     match proof.split_last() {
-        Some((last, beside)) => climb(alike(last), turns, beside),
-        None => alike(earlier),
+        Some((last, beside)) if turns > 0 => climb(alike(last), turns, beside),
+        _ => climb(alike(earlier), turns, proof),
     }
 }
 
@@ -100,24 +91,8 @@ fn roots_above(turns: u64, earlier: &Digest, proof: &[Digest]) -> Roots
 fn turns_to_last(count: u64, place: u64, levels: usize) -> Option<u64>
     ensures { TurnsToLast count place levels result }
 {
-    if place >= count {
-        return None;
-    }
-    let mut way = Way::from_root(count, place);
-    'down: loop {
-        if way.place == way.count - 1 {
-            break 'down;
-        }
-        if way.levels == levels {
-            return None;
-        }
-        way = way.down();
-    }
-    if proof_length(&way) == levels {
-        Some(way.turns)
-    } else {
-        None
-    }
+    let way = Way::from_root(count, place)?.down_until(levels, |way| way.place == way.count - 1)?;
+    (proof_length(&way) == levels).then_some(way.turns)
 }
 
 // How many digests a proof has whose way ends here.

@@ -15,36 +15,26 @@ const NODE: u8 = 1;
 pub fn empty_root() -> Digest
     ensures { result ≡ empty_root }
 {
-    Digest { bytes: sha256(&[]) }
+    sha256(&[]).into()
 }
 
 pub fn leaf_digest(entry: &[u8]) -> Digest
     ensures { result ≡ leaf_of entry.now }
 {
-    Digest {
-        bytes: tagged(LEAF, entry),
-    }
+    tagged(LEAF, entry).into()
 }
 
 pub fn node_digest(left: &Digest, right: &Digest) -> Digest
     ensures { result ≡ node_of left.now right.now }
 {
-    Digest {
-        bytes: sha256_pair(NODE, &left.bytes, &right.bytes),
-    }
+    sha256_pair(NODE, &left.bytes, &right.bytes).into()
 }
 
 // The four nodes over neighbours, all worked out at once.
 pub fn node_digests(children: &[Digest; 8]) -> [Digest; 4]
     ensures { result ≡ nodes_over children.now }
 {
-    let made = sha256_four(NODE, &pairs(children));
-    [
-        Digest { bytes: made[0] },
-        Digest { bytes: made[1] },
-        Digest { bytes: made[2] },
-        Digest { bytes: made[3] },
-    ]
+    sha256_four(NODE, &pairs(children)).map(Digest::from)
 }
 
 // The digest of a tag and a text, with no copy of the text behind the tag.
@@ -57,6 +47,7 @@ fn tagged(tag: u8, text: &[u8]) -> [u8; 32]
     hasher.finalize()
 }
 
+// Written out: a closure over the index would have to be told that it is below 4.
 fn pairs(children: &[Digest; 8]) -> [[u8; 64]; 4]
     ensures { result ≡ pair_at children.now 0 ∷ (pair_at children.now 2 ∷ (pair_at children.now 4 ∷ (pair_at children.now 6 ∷ []))) }
 {
@@ -72,7 +63,7 @@ fn joined(left: &Digest, right: &Digest) -> [u8; 64]
     ensures { result ≡ left.now.bytes ++ right.now.bytes }
 {
     let mut both = [0; 64];
-    both[0..32].copy_from_slice(&left.bytes);
-    both[32..64].copy_from_slice(&right.bytes);
+    both[..32].copy_from_slice(&left.bytes);
+    both[32..].copy_from_slice(&right.bytes);
     both
 }

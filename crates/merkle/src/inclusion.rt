@@ -22,7 +22,8 @@ impl Rise for Digest {
 }
 
 // The root that the path leads to from the leaf digest at a place of a tree of `count` leaves; None if the path has
-// another length than the way to that place. The digest nearest to the root comes first.
+// another length than the way to that place. The digest nearest to the root comes first. Count and place are two numbers here, since a
+// caller has them so; they are a `Way` once they fit.
 pub fn root_from_path(count: u64, place: u64, leaf: &Digest, path: &[Digest]) -> Option<Digest>
     ensures { result ≡ root_from_path node_of count place leaf.now path.now }
 {
@@ -33,32 +34,13 @@ pub fn root_from_path(count: u64, place: u64, leaf: &Digest, path: &[Digest]) ->
 pub fn path_leads(count: u64, place: u64, leaf: &Digest, path: &[Digest], root: &Digest) -> bool
     ensures { Decides result (PathLeads node_of count place leaf.now path.now root.now) }
 {
-    match root_from_path(count, place, leaf, path) {
-        Some(found) => found == *root,
-        None => false,
-    }
+    root_from_path(count, place, leaf, path) == Some(*root)
 }
 
 // No digest is made here, so that a path of a wrong length costs nothing.
 fn turns_to_leaf(count: u64, place: u64, levels: usize) -> Option<u64>
     ensures { TurnsToLeaf count place levels result }
 {
-    if place >= count {
-        return None;
-    }
-    let mut way = Way::from_root(count, place);
-    'down: loop {
-        if way.count == 1 {
-            break 'down;
-        }
-        if way.levels == levels {
-            return None;
-        }
-        way = way.down();
-    }
-    if way.levels == levels {
-        Some(way.turns)
-    } else {
-        None
-    }
+    let way = Way::from_root(count, place)?.down_until(levels, |way| way.count == 1)?;
+    (way.levels == levels).then_some(way.turns)
 }

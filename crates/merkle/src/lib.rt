@@ -13,7 +13,7 @@ mod split;
 mod way;
 
 pub use consistency::{consistency_leads, roots_from_consistency};
-pub use digest::Digest;
+pub use digest::{Digest, equality_tells_digests_apart};
 pub use hashing::{empty_root, leaf_digest, node_digest, node_digests};
 pub use inclusion::{path_leads, root_from_path};
 pub use roots::Roots;

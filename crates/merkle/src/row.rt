@@ -12,11 +12,10 @@ use crate::split::left_size;
 pub fn root_of(row: &[Digest]) -> Digest
     ensures { result ≡ root leaves row.now }
 {
-    if row.is_empty() {
-        return empty_root();
-    }
-    if row.len() == 1 {
-        return row[0];
+    match row {
+        [] => return empty_root(),
+        [leaf] => return *leaf,
+        _ => {}
     }
     let (left, right) = sides(row);
     if left.len() == right.len() && left.len() > 1 {
@@ -61,5 +60,6 @@ fn quarters(row: &[Digest], size: usize) -> [Digest; 4]
     let (front, back) = row.split_at(2 * size);
     let a = quarters(front, size / 2);
     let b = quarters(back, size / 2);
+    // Written out: no method joins two arrays into one.
     node_digests(&[a[0], a[1], a[2], a[3], b[0], b[1], b[2], b[3]])
 }

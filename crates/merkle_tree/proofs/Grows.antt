@@ -1,5 +1,5 @@
 -- A tree with leaves added.
-use Rattle.std.proofs.Common.{◌≡◌, ℕ, suc, ◌+◌, ◌<◌, ◌≤◌, List, ◌++◌, length, take, drop, sym, ap, ◌∙◌, arith, length-append, length-drop}
+use Rattle.std.proofs.Common.{◌≡◌, ℕ, suc, ◌+◌, ◌<◌, ◌≤◌, List, ◌++◌, length, take, drop, sym, ap, ◌∙◌, arith, length-drop}
 use lib.Seq.{take-append-le, drop-append-le}
 use Rattle.std.proofs.lemmas.List.{get_or_append_left}
 use Rattle.merkle.specs.declared.digest.Digest.{Digest}
@@ -26,20 +26,5 @@ kept_under ds es ms fs e kept k i h =
     ∙ ap root_of (sym (part_under (scaled (suc k) i) size ds es ends))))
 
 -- what filling asks for, where both rows have grown
-pub record Grown (ds ms : List Digest) (count : ℕ) : Type 0 where
-  pub within : count ≤ length ds
-  pub paired : length ms ≡ length ds
-  pub kept : KeptTo ds ms count
-
-pub grown : (ds ms row xs ys : List Digest) (count : ℕ) → xs ≡ ds ++ row → ys ≡ ms ++ row → length ms ≡ length ds → length ds ≡ count → Kept ds ms → Grown xs ys count
-grown ds ms row xs ys count e f h c kept =
-    let long = length-append ds row in
-    let longer = length-append ms row in
-    rw (e, f, ← c) (record { within = omega arith; paired = omega arith; kept = kept_under ds row ms row h kept })
-
--- a tree's two rows belong together
-abbrev pub Together : List Digest → List Digest → Type 0
-Together ds ms = (length ms ≡ length ds) × Kept ds ms
-
-pub together_again : (ds ms xs ys : List Digest) → xs ≡ ds → ys ≡ ms → length ms ≡ length ds → Kept ds ms → Together xs ys
-together_again ds ms xs ys e f h kept = rw (e, f) (h, kept)
+pub grown : (ds ms row xs ys : List Digest) (count : ℕ) → xs ≡ ds ++ row → ys ≡ ms ++ row → length ms ≡ length ds → length ds ≡ count → Kept ds ms → KeptTo xs ys count
+grown ds ms row xs ys count e f h c kept = rw (e, f, ← c) (kept_under ds row ms row h kept)

@@ -1,5 +1,5 @@
 -- The way down to a place: what has been noted beside it, and what is still to come, make the whole proof.
-use Rattle.std.proofs.Common.{◌≡◌, ℕ, ◌+◌, ◌-◌, ◌<◌, ◌≤◌, Bool, true, false, eqb, ltb, List, [], ◌∷◌, ◌++◌, length, take, sym, refl, ap, ◌∙◌, subst, ap₂, inl, inr, append_assoc, arith, le-ltb, lt-ltb, eq-eqb, ne_eqb}
+use Rattle.std.proofs.Common.{◌≡◌, ℕ, ◌+◌, ◌-◌, ◌<◌, ◌≤◌, Bool, true, false, eqb, ltb, List, [], ◌∷◌, ◌++◌, length, take, sym, refl, ap, ◌∙◌, subst, ap₂, inl, inr, arith, le-ltb, lt-ltb, eq-eqb, ne_eqb}
 use Rattle.std.proofs.lemmas.List.{append-nil}
 use Rattle.std.proofs.lemmas.Bool.{cases_lt, cond-true, cond-false}
 use Rattle.merkle_theory.specs.Tree.{split}
@@ -9,7 +9,7 @@ use Rattle.merkle.specs.declared.digest.Digest.{Digest}
 use Rattle.merkle.specs.Digests.{leaves}
 use Rattle.merkle_tree.specs.declared.step.Step.{Step}
 use Rattle.merkle_tree.specs.Layout.{root_of, part, Subtree}
-use Rattle.merkle_tree.specs.Walk.{step_to}
+use Rattle.merkle_tree.specs.Walk.{step_to, Walks}
 use Rattle.merkle_tree.specs.Answer.{path_of, consistency_of}
 use Rattle.merkle_tree.proofs.Parts.{length_part, left_part, right_part}
 use Rattle.merkle_tree.proofs.Subtrees.{first_leaves, left_side, right_side}
@@ -22,8 +22,8 @@ pub record OnWay (ds : List Digest) (from size place : ℕ) : Type 0 where
 
 -- A step down, by the side that it goes to.
 data Goes (ds : List Digest) (from size place : ℕ) : Step → Type 0 where
-  left : place < from + split size → Goes ds from size place (record { from = from; size = split size; beside = root_of (part (from + split size) (size - split size) ds) })
-  right : from + split size ≤ place → Goes ds from size place (record { from = from + split size; size = size - split size; beside = root_of (part from (split size) ds) })
+  left : place < from + split size → Goes ds from size place (record { side = record { from = from; size = split size }; beside = root_of (part (from + split size) (size - split size) ds) })
+  right : from + split size ≤ place → Goes ds from size place (record { side = record { from = from + split size; size = size - split size }; beside = root_of (part from (split size) ds) })
 
 goes : {st : Step} (ds : List Digest) (from size place : ℕ) → st ≡ step_to ds from size place → Goes ds from size place st
 goes ds from size place e = elim (cases_lt place (from + split size)) [
@@ -32,20 +32,20 @@ goes ds from size place e = elim (cases_lt place (from + split size)) [
 ]
 
 -- the side that it goes to has the place, and is smaller
-way_goes : {ds : List Digest} {from size place : ℕ} {st : Step} → OnWay ds from size place → 2 ≤ size → Goes ds from size place st → OnWay ds st.from st.size place × (st.size < size)
+way_goes : {ds : List Digest} {from size place : ℕ} {st : Step} → OnWay ds from size place → 2 ≤ size → Goes ds from size place st → OnWay ds st.side.from st.side.size place × (st.side.size < size)
 way_goes {ds} {from} {size} w two (left h) =
     let below = split_below size two in
     (record { subtree = left_side w.subtree (split size) (split_pos size two) (omega arith); after = w.after; before = h }, below)
 way_goes {ds} {from} {size} w two (right h) =
     (record { subtree = right_side w.subtree two (split size) refl; after = h; before = omega (arith, w.before, split_below size two) }, omega (arith, split_pos size two))
 
-pub way_down : {ds : List Digest} {from size place : ℕ} (st : Step) → OnWay ds from size place → 2 ≤ size → st ≡ step_to ds from size place → OnWay ds st.from st.size place × (st.size < size)
+pub way_down : {ds : List Digest} {from size place : ℕ} (st : Step) → OnWay ds from size place → 2 ≤ size → st ≡ step_to ds from size place → OnWay ds st.side.from st.side.size place × (st.side.size < size)
 way_down {ds} {from} {size} {place} st w two e = way_goes w two (goes ds from size place e)
 
 -- The proof of a part is the digest beside the step and the proof of the side.
 
 path-goes : {ds : List Digest} {from size place : ℕ} {st : Step} → OnWay ds from size place → 2 ≤ size → Goes ds from size place st →
-    path_of (place - from) (part from size ds) ≡ st.beside ∷ path_of (place - st.from) (part st.from st.size ds)
+    path_of (place - from) (part from size ds) ≡ st.beside ∷ path_of (place - st.side.from) (part st.side.from st.side.size ds)
 path-goes {ds} {from} {size} {place} w two (left h) =
     let s = w.subtree in
     let long = length_part from size ds s.within in
@@ -60,7 +60,7 @@ path-goes {ds} {from} {size} {place} w two (right h) =
     ∙ ap (λ m. root_of (part from (split size) ds) ∷ path_of m (part (from + split size) (size - split size) ds)) on)
 
 pub path_down : {ds : List Digest} {from size place : ℕ} (st : Step) → OnWay ds from size place → 2 ≤ size → st ≡ step_to ds from size place →
-    path_of (place - from) (part from size ds) ≡ st.beside ∷ path_of (place - st.from) (part st.from st.size ds)
+    path_of (place - from) (part from size ds) ≡ st.beside ∷ path_of (place - st.side.from) (part st.side.from st.side.size ds)
 path_down {ds} {from} {size} {place} st w two e = path-goes w two (goes ds from size place e)
 
 pub path-ends : {ds : List Digest} {from size : ℕ} (place : ℕ) → Subtree ds from size → size ≡ 1 → path_of place (part from size ds) ≡ []
@@ -71,7 +71,7 @@ abbrev pub growth_of : List Digest → ℕ → ℕ → ℕ → List Digest
 growth_of ds count from size = consistency_from leaves (count - from) (eqb from 0) (part from size ds)
 
 growth_goes : {ds : List Digest} {from size count : ℕ} {st : Step} → OnWay ds from size (count - 1) → 0 < count → count < from + size → 2 ≤ size → Goes ds from size (count - 1) st →
-    growth_of ds count from size ≡ st.beside ∷ growth_of ds count st.from st.size
+    growth_of ds count from size ≡ st.beside ∷ growth_of ds count st.side.from st.side.size
 growth_goes {ds} {from} {size} {count} w pos short two (left h) =
     let s = w.subtree in
     let long = length_part from size ds s.within in
@@ -87,7 +87,7 @@ growth_goes {ds} {from} {size} {count} w pos short two (right h) =
     ∙ ap₂ (λ m whole. root_of (part from (split size) ds) ∷ consistency_from leaves m whole (part (from + split size) (size - split size) ds)) on later)
 
 pub growth_down : {ds : List Digest} {from size count : ℕ} (st : Step) → OnWay ds from size (count - 1) → 0 < count → count < from + size → 2 ≤ size → st ≡ step_to ds from size (count - 1) →
-    growth_of ds count from size ≡ st.beside ∷ growth_of ds count st.from st.size
+    growth_of ds count from size ≡ st.beside ∷ growth_of ds count st.side.from st.side.size
 growth_down {ds} {from} {size} {count} st w pos short two e = growth_goes w pos short two (goes ds from size (count - 1) e)
 
 ends_with : {ds : List Digest} {from size count : ℕ} (whole : Bool) → Subtree ds from size → from + size ≡ count →
@@ -108,23 +108,49 @@ growth_ends_part {ds} {from} {size} {count} s e some is =
     ∙ (ap (λ whole. consistency_from leaves (length (part from size ds)) whole (part from size ds)) (ne_eqb from 0 (omega arith))
     ∙ (consistency-of_part leaves (part from size ds) ∙ ap (λ r. r ∷ []) (sym is)))
 
--- At the root nothing is noted, and all is to come.
+-- At the root all is to come.
 
 pub way_begins : {ds : List Digest} {count place : ℕ} → place < count → count ≤ length ds → OnWay ds 0 count place
 way_begins {ds} {count} h l = record { subtree = first_leaves ds count (omega arith) l; after = omega arith; before = omega arith }
 
-pub path-begins : {out : List Digest} (ds : List Digest) (count place : ℕ) → out ≡ [] → out ++ path_of (place - 0) (part 0 count ds) ≡ path_of place (take count ds)
-path-begins ds count place e = let all : place - 0 ≡ place = omega arith in rw e (ap (λ m. path_of m (take count ds)) all)
+-- one step more
+pub walks_more : (P : ℕ → ℕ → Type 0) (ds : List Digest) (place f s : ℕ) (st : Step) → st ≡ step_to ds f s place → P f s →
+    (out : List Digest) (from size : ℕ) → Walks P ds place out from size f s → Walks P ds place (out ++ (st.beside ∷ [])) from size st.side.from st.side.size
+walks_more P ds place f s st e p [] from size (ef, es) =
+    let same : step_to ds f s place ≡ step_to ds from size place = ap₂ (λ a b. step_to ds a b place) ef es in
+    let is : st ≡ step_to ds from size place = e ∙ same in
+    (subst (λ a. P a size) ef (subst (P f) es p), ap (λ (t : Step). t.beside) is, (ap (λ (t : Step). t.side.from) is, ap (λ (t : Step). t.side.size) is))
+walks_more P ds place f s st e p (d ∷ out) from size (q, is, rest) =
+    let next = step_to ds from size place in
+    (q, is, walks_more P ds place f s st e p out next.side.from next.side.size rest)
 
-pub growth_begins : {out : List Digest} (ds : List Digest) (count old : ℕ) → out ≡ [] → out ++ growth_of ds old 0 count ≡ consistency_of old (take count ds)
-growth_begins ds count old e =
-    let all : old - 0 ≡ old = omega arith in
-    rw e (ap (λ m. consistency_from leaves m true (take count ds)) all ∙ sym (consistency-is_from leaves old (take count ds)))
+-- What is to come at the root is what was noted, and what is to come where the way ends.
+module _ (P : ℕ → ℕ → Type 0) (ds : List Digest) (place : ℕ) (to_come : ℕ → ℕ → List Digest)
+    (two : (from size : ℕ) → OnWay ds from size place → P from size → 2 ≤ size)
+    (more : (from size : ℕ) → OnWay ds from size place → P from size → let st = step_to ds from size place in to_come from size ≡ st.beside ∷ to_come st.side.from st.side.size) where
+  walked : (out : List Digest) (from size f s : ℕ) → OnWay ds from size place → Walks P ds place out from size f s → OnWay ds f s place × (to_come from size ≡ out ++ to_come f s)
+  walked [] from size f s w (ef, es) = (subst (λ a. OnWay ds a s place) (sym ef) (subst (λ b. OnWay ds from b place) (sym es) w), sym (ap₂ to_come ef es))
+  walked (d ∷ out) from size f s w (p, is, rest) =
+      let st = step_to ds from size place in
+      let (end, e) = walked out st.side.from st.side.size f s (way_down st w (two from size w p) refl).0 rest in
+      (end, more from size w p ∙ ap₂ ◌∷◌ (sym is) e)
 
--- one more digest is noted
-pub noted : {A : Type 0} {out rest now all : List A} {d : A} (was : List A) → out ≡ was ++ (d ∷ []) → now ≡ d ∷ rest → was ++ now ≡ all → out ++ rest ≡ all
-noted {A} {out} {rest} {now} {all} {d} was o e w = ap (λ xs. xs ++ rest) o ∙ (append_assoc was (d ∷ []) rest ∙ (ap (λ xs. was ++ xs) (sym e) ∙ w))
+pub path_walked : (P : ℕ → ℕ → Type 0) (ds : List Digest) (place count : ℕ) (out : List Digest) (f s : ℕ) →
+    ((from size : ℕ) → from ≤ place → place < from + size → P from size → 2 ≤ size) → place < count → count ≤ length ds →
+    Walks P ds place out 0 count f s → s ≡ 1 → out ≡ path_of place (take count ds)
+path_walked P ds place count out f s many h l walks one =
+    let two : (from size : ℕ) → OnWay ds from size place → P from size → 2 ≤ size = λ from size w p. many from size w.after w.before p in
+    let (w, e) = walked P ds place (λ from size. path_of (place - from) (part from size ds)) two (λ from size w p. path_down _ w (two from size w p) refl) out 0 count f s (way_begins h l) walks in
+    let all : place - 0 ≡ place = omega arith in
+    sym (ap (λ m. path_of m (take count ds)) (sym all) ∙ (e ∙ (ap (λ r. out ++ r) (path-ends (place - f) w.subtree one) ∙ append-nil out)))
 
--- nothing is to come
-pub all_noted : {A : Type 0} {out now all : List A} → now ≡ [] → out ++ now ≡ all → out ≡ all
-all_noted {A} {out} e w = sym (append-nil out) ∙ (ap (λ xs. out ++ xs) (sym e) ∙ w)
+pub growth_walked : (P : ℕ → ℕ → Type 0) (ds : List Digest) (old count : ℕ) (out : List Digest) (f s : ℕ) →
+    ((from size : ℕ) → P from size → from + size ≡ old → ⊥) → 0 < old → old ≤ count → count ≤ length ds →
+    Walks P ds (old - 1) out 0 count f s → (consistency_of old (take count ds) ≡ out ++ growth_of ds old f s)
+growth_walked P ds old count out f s inner some h l walks =
+    let two : (from size : ℕ) → OnWay ds from size (old - 1) → P from size → 2 ≤ size = λ from size w p. let other = inner from size p in omega (arith, w.after, w.before) in
+    let more : (from size : ℕ) → OnWay ds from size (old - 1) → P from size → let st = step_to ds from size (old - 1) in growth_of ds old from size ≡ st.beside ∷ growth_of ds old st.side.from st.side.size =
+    λ from size w p. let other = inner from size p in growth_down _ w some (omega (arith, w.before)) (two from size w p) refl in
+    let (w, e) = walked P ds (old - 1) (growth_of ds old) two more out 0 count f s (way_begins (omega arith) l) walks in
+    let all : old ≡ old - 0 = omega arith in
+    consistency-is_from leaves old (take count ds) ∙ (ap (λ m. consistency_from leaves m true (take count ds)) all ∙ e)

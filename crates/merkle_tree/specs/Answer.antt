@@ -1,5 +1,5 @@
 -- What a tree answers, and when it refuses. Assumes nothing.
-use Rattle.std.specs.Prelude.{◌≡◌, ℕ, ◌<◌, ◌≤◌, List, ◌++◌, length, Result, MatchResult}
+use Rattle.std.specs.Prelude.{◌≡◌, ℕ, ◌<◌, ◌≤◌, List, ◌++◌, length, codes, Result, MatchResult}
 use Rattle.merkle_theory.specs.Tree.{path, consistency}
 use Rattle.merkle.specs.declared.digest.Digest.{Digest}
 use Rattle.merkle.specs.Digests.{leaves}
@@ -19,6 +19,11 @@ LeafAmong place count ds = (place < count) × (count ≤ length ds)
 
 abbrev pub GrowthAmong : ℕ → ℕ → List Digest → Type 0
 GrowthAmong few more ds = (0 < few) × (few ≤ more) × (more ≤ length ds)
+
+-- how a refusal reads
+abbrev pub refusal_text : TreeError → List ℕ
+refusal_text NotThere = codes "the tree has too few leaves"
+refusal_text NoMemory = codes "no memory"
 
 -- what is asked for isn't there; or it is, and memory was wanting
 abbrev pub Refuses : TreeError → Type 0 → Type 0

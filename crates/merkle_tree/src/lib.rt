@@ -3,6 +3,7 @@
 
 mod error;
 mod fill;
+mod rows;
 mod step;
 mod subtree;
 mod tree;

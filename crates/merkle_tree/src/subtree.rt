@@ -1,10 +1,11 @@
 // Roots of subtrees from kept digests: a whole one's is read, any other has a node digest for each further whole one in it.
 ghost use Rattle.std.specs.Prelude.{◌≡◌, ◌+◌, ◌<◌, ◌≤◌, length, take};
 ghost use Rattle.merkle_theory.specs.Tree.{split};
-ghost use Rattle.merkle_tree.specs.Layout.{Kept, Subtree, kept_at, part, root_of};
+ghost use Rattle.merkle_tree.specs.Layout.{Subtree, kept_at, part, root_of};
 ghost use Rattle.merkle_tree.specs.Walk.{step_to};
 
-use crate::step::Step;
+use crate::rows::Rows;
+use crate::step::{Span, Step};
 use merkle::{Digest, empty_root, left_size, node_digest};
 
 // The digest kept for a whole subtree.
@@ -30,35 +31,6 @@ fn first_whole(size: usize) -> usize
     1 << size.ilog2()
 }
 
-// The root of a subtree.
-pub(crate) fn subtree(leaves: &[Digest], mids: &[Digest], from: usize, size: usize) -> Digest
-    requires subtree { Subtree leaves.now from size }
-    requires paired { length mids.now ≡ length leaves.now }
-    requires kept { Kept leaves.now mids.now }
-    ensures { result ≡ root_of (part from size leaves.now) }
-{
-    let first = first_whole(size);
-    let left = whole(leaves, mids, from, first);
-    if first == size {
-        return left;
-    }
-    let right = subtree(leaves, mids, from + first, size - first);
-    node_digest(&left, &right)
-}
-
-// The root over the first `count` leaves.
-pub(crate) fn root_over(leaves: &[Digest], mids: &[Digest], count: usize) -> Digest
-    requires within { count ≤ length leaves.now }
-    requires paired { length mids.now ≡ length leaves.now }
-    requires kept { Kept leaves.now mids.now }
-    ensures { result ≡ root_of (take count leaves.now) }
-{
-    if count == 0 {
-        return empty_root();
-    }
-    subtree(leaves, mids, 0, count)
-}
-
 // The size of the left side of a subtree.
 fn left_side(size: usize) -> usize
     requires { 2 ≤ size }
@@ -68,36 +40,63 @@ fn left_side(size: usize) -> usize
     left_size(size as u64) as usize
 }
 
-// One step down from a subtree, to the side that has the place.
-pub(crate) fn down(
-    leaves: &[Digest],
-    mids: &[Digest],
-    from: usize,
-    size: usize,
-    place: usize,
-) -> Step
-    requires two { 2 ≤ size }
-    requires subtree { Subtree leaves.now from size }
-    requires paired { length mids.now ≡ length leaves.now }
-    requires kept { Kept leaves.now mids.now }
-    ensures { result ≡ step_to leaves.now from size place }
-{
-    let left = left_side(size);
-    let mid = from + left;
-    let right = size - left;
-    if place < mid {
-        let beside = subtree(leaves, mids, mid, right);
-        Step {
-            from,
-            size: left,
-            beside,
+impl Rows<'_> {
+    // The root of a subtree.
+    pub(crate) fn subtree(&self, span: Span) -> Digest
+        requires { Subtree self.now.leaves.now span.from span.size }
+        ensures { result ≡ root_of (part span.from span.size self.now.leaves.now) }
+    {
+        let first = first_whole(span.size);
+        let left = whole(self.leaves, self.mids, span.from, first);
+        if first == span.size {
+            return left;
         }
-    } else {
-        let beside = subtree(leaves, mids, from, left);
-        Step {
-            from: mid,
-            size: right,
-            beside,
+        let rest = Span {
+            from: span.from + first,
+            size: span.size - first,
+        };
+        node_digest(&left, &self.subtree(rest))
+    }
+
+    // The root over the first `count` leaves. The count is the caller's, so it is asked here that there are as many.
+    pub(crate) fn root_over(&self, count: usize) -> Digest
+        requires { count ≤ length self.now.leaves.now }
+        ensures { result ≡ root_of (take count self.now.leaves.now) }
+    {
+        if count == 0 {
+            return empty_root();
+        }
+        self.subtree(Span {
+            from: 0,
+            size: count,
+        })
+    }
+
+    // One step down from a subtree, to the side that has the place.
+    pub(crate) fn down(&self, span: Span, place: usize) -> Step
+        requires two { 2 ≤ span.size }
+        requires subtree { Subtree self.now.leaves.now span.from span.size }
+        ensures { result ≡ step_to self.now.leaves.now span.from span.size place }
+    {
+        let size = left_side(span.size);
+        let left = Span {
+            from: span.from,
+            size,
+        };
+        let right = Span {
+            from: span.from + size,
+            size: span.size - size,
+        };
+        if place < right.from {
+            Step {
+                side: left,
+                beside: self.subtree(right),
+            }
+        } else {
+            Step {
+                side: right,
+                beside: self.subtree(left),
+            }
         }
     }
 }

@@ -8,7 +8,7 @@ mod answer;
 mod grow;
 
 // The digest of the whole subtree over the leaves from a to a + s stands at mids[a + s / 2]: each place but the first is the
-// middle of one whole subtree, so that the two rows are equally long.
+// middle of one whole subtree, so that the two rows are equally long. They are two rows, since `leaves` lends the one.
 #[derive(Drop)]
 pub struct Tree {
     leaves: Vec<Digest>,

@@ -7,9 +7,8 @@ ghost use Rattle.merkle_tree.specs.Layout.{root_of};
 ghost use Rattle.merkle_tree.specs.View.{leaves_of};
 
 use crate::error::TreeError;
-use crate::subtree::root_over;
+use crate::rows::Rows;
 use crate::tree::Tree;
-use crate::walk::{growth, path};
 use merkle::Digest;
 
 impl Tree {
@@ -31,14 +30,14 @@ impl Tree {
     pub fn leaf(&self, place: u64) -> Option<Digest>
         ensures { result ≡ slice_get (leaves_of self.now) place }
     {
-        leaf_at(&self.leaves, place as usize)
+        self.leaves.get(place as usize).copied()
     }
 
     // The root over all leaves.
     pub fn root(&self) -> Digest
         ensures { result ≡ root_of (leaves_of self.now) }
     {
-        root_over(&self.leaves, &self.mids, self.leaves.len())
+        self.rows().root_over(self.leaves.len())
     }
 
     // The root over the first `count` leaves.
@@ -48,58 +47,37 @@ impl Tree {
         if count > self.count() {
             return Err(TreeError::NotThere);
         }
-        Ok(root_over(&self.leaves, &self.mids, count as usize))
+        Ok(self.rows().root_over(count as usize))
     }
 
     // The inclusion proof of a leaf among the first `count`.
     pub fn inclusion(&self, place: u64, count: u64) -> Result<Vec<Digest>, TreeError>
         ensures { Answers result (LeafAmong place count (leaves_of self.now)) (λ v. v.items ≡ path_of place (take count (leaves_of self.now))) }
     {
-        if place >= count {
+        if place >= count || count > self.count() {
             return Err(TreeError::NotThere);
         }
-        if count > self.count() {
-            return Err(TreeError::NotThere);
-        }
-        path(
-            *self.leaves.allocator(),
-            &self.leaves,
-            &self.mids,
-            place as usize,
-            count as usize,
-        )
+        self.rows()
+            .path(*self.leaves.allocator(), place as usize, count as usize)
     }
 
     // The proof that the first `to` leaves begin with the first `from`.
     pub fn consistency(&self, from: u64, to: u64) -> Result<Vec<Digest>, TreeError>
         ensures { Answers result (GrowthAmong from to (leaves_of self.now)) (λ v. v.items ≡ consistency_of from (take to (leaves_of self.now))) }
     {
-        if from == 0 {
+        if from == 0 || from > to || to > self.count() {
             return Err(TreeError::NotThere);
         }
-        if from > to {
-            return Err(TreeError::NotThere);
-        }
-        if to > self.count() {
-            return Err(TreeError::NotThere);
-        }
-        growth(
-            *self.leaves.allocator(),
-            &self.leaves,
-            &self.mids,
-            from as usize,
-            to as usize,
-        )
+        self.rows()
+            .growth(*self.leaves.allocator(), from as usize, to as usize)
     }
-}
 
-// The digest at a place, if there is one.
-fn leaf_at(leaves: &[Digest], place: usize) -> Option<Digest>
-    ensures { result ≡ slice_get leaves.now place }
-{
-    if place < leaves.len() {
-        Some(leaves[place])
-    } else {
-        None
+    fn rows(&self) -> Rows<'_>
+        ensures { result.leaves.now ≡ leaves_of self.now }
+    {
+        Rows {
+            leaves: &self.leaves,
+            mids: &self.mids,
+        }
     }
 }

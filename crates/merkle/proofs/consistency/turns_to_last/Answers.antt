@@ -1,28 +1,21 @@
-use Rattle.std.proofs.Common.{sym, ◌∙◌, arith}
-use Rattle.merkle.proofs.Sizes.{fewer_below}
-use Rattle.merkle.proofs.OnProof.{proof_outside, proof_short, proof_wrong, proof_right, proof_down}
+use Rattle.std.proofs.Common.{rules, eqb, sym, ap, ◌∙◌, subst, arith}
+use Rattle.std.specs.Bool.{then_some}
+use Rattle.merkle.specs.Consistency.{TurnsToLast}
+use Rattle.merkle.proofs.OnProof.{proof_outside, proof_reached, proof_short, proof_fits}
 use Rattle.merkle.proofs.consistency.turns_to_last.Goals as goal
 
-pub returns-then-place-count : goal.returns-then-place-count
-returns-then-place-count c = proof_outside c.args.count c.args.place c.args.levels c.if-place-count.true
+pub returns-in_err-from_root : goal.returns-in_err-from_root
+returns-in_err-from_root c = subst (TurnsToLast c.args.count c.args.place c.args.levels) (sym c.from_residual.ensures) (proof_outside c.args.count c.args.place c.args.levels c.in_err-from_root.ensures)
 
-pub returns-then-way-levels : goal.returns-then-way-levels
-returns-then-way-levels c =
-    proof_short c.args.count c.args.place c.args.levels c.down.way c.down.invariant.1 (λ e. c.if-way.false (omega arith)) c.if-way-levels.true
+pub returns-in_err-way : goal.returns-in_err-way
+returns-in_err-way c =
+    let (w, down, level, inner) = c.in_err-way.ensures in
+    let known = proof_reached _ c.args.count c.args.place c.args.levels (λ w p e. search (arith, rules)) c.in_ok-from_root.field-0 w c.in_ok-from_root.ensures down (omega arith) in
+    subst (TurnsToLast c.args.count c.args.place c.args.levels) (sym c.from_residual-in_err-way.ensures) (proof_short c.args.count c.args.place c.args.levels w known (λ e. search (arith, rules)) level)
 
-pub down-smaller : goal.down-smaller
-down-smaller c = fewer_below c.down.way c.down-way.result (λ e. c.if-way.false (omega arith)) (c.down-way.ensures.side, c.down-way.ensures.level)
-
-pub down-preserved : goal.down-preserved
-down-preserved c = (
-  omega arith,
-  proof_down c.args.count c.args.place c.args.levels c.down.way c.down.invariant.1 c.down-way.result (λ e. c.if-way.false (omega arith)) (omega arith) (c.down-way.ensures.side, c.down-way.ensures.level),
-)
-
-pub returns-then-proof_length-levels : goal.returns-then-proof_length-levels
-returns-then-proof_length-levels c =
-    proof_right c.args.count c.args.place c.args.levels c.down.way c.down.invariant.1 (omega arith) (sym c.proof_length.ensures ∙ c.if-proof_length-levels.true)
-
-pub returns-else-proof_length-levels : goal.returns-else-proof_length-levels
-returns-else-proof_length-levels c =
-    proof_wrong c.args.count c.args.place c.args.levels c.down.way c.down.invariant.1 (omega arith) (λ e. c.if-proof_length-levels.false (c.proof_length.ensures ∙ e)) c.down.invariant.0
+pub returns : goal.returns
+returns c =
+    let (down, level, end) = c.in_ok-way.ensures in
+    let known = proof_reached _ c.args.count c.args.place c.args.levels (λ w p e. search (arith, rules)) c.in_ok-from_root.field-0 c.in_ok-way.way c.in_ok-from_root.ensures down level in
+    subst (TurnsToLast c.args.count c.args.place c.args.levels)
+    (sym (c.then_some.ensures ∙ ap (λ k. then_some (eqb k c.args.levels) c.in_ok-way.way.turns) c.proof_length.ensures)) (proof_fits c.args.count c.args.place c.args.levels c.in_ok-way.way known (search (arith, rules)) level)

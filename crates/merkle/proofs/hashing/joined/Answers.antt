@@ -1,9 +1,6 @@
 use Rattle.std.proofs.Common.{◌++◌, replicate, refl, ◌∙◌, ap₂}
-use Rattle.merkle.proofs.Rows.{both_halves, second_written}
+use Rattle.merkle.proofs.Rows.{second_written}
 use Rattle.merkle.proofs.hashing.joined.Goals as goal
-
-pub slice_bounds-both-end-2 : goal.slice_bounds-both-end-2
-slice_bounds-both-end-2 c = both_halves c.copy_from_slice.new.self (replicate 32 0) c.copy_from_slice.ensures.len refl
 
 pub returns : goal.returns
 returns c =

@@ -1,25 +1,19 @@
-use Rattle.std.proofs.Common.{arith}
-use Rattle.merkle.proofs.Sizes.{fewer_below}
-use Rattle.merkle.proofs.OnPath.{path-outside, path_short, path-long, path-right, path_down}
+use Rattle.std.proofs.Common.{rules, sym, subst, arith}
+use Rattle.merkle.specs.Inclusion.{TurnsToLeaf}
+use Rattle.merkle.proofs.OnPath.{path-outside, path_reached, path_short, path_fits}
 use Rattle.merkle.proofs.inclusion.turns_to_leaf.Goals as goal
 
-pub returns-then-place-count : goal.returns-then-place-count
-returns-then-place-count c = path-outside c.args.count c.args.place c.args.levels c.if-place-count.true
+pub returns-in_err-from_root : goal.returns-in_err-from_root
+returns-in_err-from_root c = subst (TurnsToLeaf c.args.count c.args.place c.args.levels) (sym c.from_residual.ensures) (path-outside c.args.count c.args.place c.args.levels c.in_err-from_root.ensures)
 
-pub returns-then-way-levels : goal.returns-then-way-levels
-returns-then-way-levels c = path_short c.args.count c.args.place c.args.levels c.down.way c.down.invariant.1 c.if-way-eq1.false c.if-way-levels.true
+pub returns-in_err-way : goal.returns-in_err-way
+returns-in_err-way c =
+    let (w, down, level, inner) = c.in_err-way.ensures in
+    let known = path_reached _ c.args.count c.args.place c.args.levels (λ w p e. search (arith, rules)) c.in_ok-from_root.field-0 w c.in_ok-from_root.ensures down (omega arith) in
+    subst (TurnsToLeaf c.args.count c.args.place c.args.levels) (sym c.from_residual-in_err-way.ensures) (path_short c.args.count c.args.place c.args.levels w known (λ e. search (arith, rules)) level)
 
-pub down-smaller : goal.down-smaller
-down-smaller c = fewer_below c.down.way c.down-way.result c.if-way-eq1.false (c.down-way.ensures.side, c.down-way.ensures.level)
-
-pub down-preserved : goal.down-preserved
-down-preserved c = (
-  omega arith,
-  path_down c.args.count c.args.place c.args.levels c.down.way c.down.invariant.1 c.down-way.result c.if-way-eq1.false (omega arith) (c.down-way.ensures.side, c.down-way.ensures.level),
-)
-
-pub returns-then-way-levels-2 : goal.returns-then-way-levels-2
-returns-then-way-levels-2 c = path-right c.args.count c.args.place c.args.levels c.down.way c.down.invariant.1 c.if-way-eq1.true c.if-way-levels-2.true
-
-pub returns-else-way-levels-2 : goal.returns-else-way-levels-2
-returns-else-way-levels-2 c = path-long c.args.count c.args.place c.args.levels c.down.way c.down.invariant.1 c.if-way-eq1.true (omega arith)
+pub returns : goal.returns
+returns c =
+    let (down, level, end) = c.in_ok-way.ensures in
+    let known = path_reached _ c.args.count c.args.place c.args.levels (λ w p e. search (arith, rules)) c.in_ok-from_root.field-0 c.in_ok-way.way c.in_ok-from_root.ensures down level in
+    subst (TurnsToLeaf c.args.count c.args.place c.args.levels) (sym c.then_some.ensures) (path_fits c.args.count c.args.place c.args.levels c.in_ok-way.way known (search (arith, rules)) level)

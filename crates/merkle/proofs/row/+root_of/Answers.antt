@@ -1,13 +1,12 @@
-use Rattle.std.proofs.Common.{[], sym, ◌∙◌}
-use Rattle.std.proofs.lemmas.Bool.{eqb-true}
+use Rattle.std.proofs.Common.{[], ◌∙◌, arith}
 use Rattle.merkle.proofs.Rows.{root-of_no_leaf, root-of_leaf, sides_alike}
 use Rattle.merkle.proofs.row.+root_of.Goals as goal
 
-pub returns-then-is_empty : goal.returns-then-is_empty
-returns-then-is_empty t c = c.empty_root.ensures ∙ root-of_no_leaf c.args.row.now (eqb-true _ 0 (sym c.if-is_empty.ensures))
+pub returns-in-empty : goal.returns-in-empty
+returns-in-empty t c = c.empty_root.ensures ∙ root-of_no_leaf c.args.row.now (omega (arith, c.in-empty.len_below))
 
-pub returns-then-row-eq1 : goal.returns-then-row-eq1
-returns-then-row-eq1 t c = root-of_leaf c.args.row.now (record { bytes = [] }) c.if-row-eq1.true
+pub returns-in-len1 : goal.returns-in-len1
+returns-in-len1 t c = root-of_leaf c.args.row.now (record { bytes = [] }) (omega (arith, c.in-len1.len_at_least, c.in-len1.len_below))
 
 pub whole_root-requires : goal.whole_root-requires
 whole_root-requires t c =

@@ -1,5 +1,5 @@
 -- What is left of a subtree after its first whole one is smaller.
-use Rattle.merkle_tree.proofs.subtree.+subtree.Given as goal
+use Rattle.merkle_tree.proofs.rows.Rows.+subtree.Given as goal
 
 abbrev pub decreases-subtree : goal.decreases-subtree
-decreases-subtree l = l.size
+decreases-subtree l = l.span.size
