@@ -1,0 +1,4 @@
+pub mod Begun
+pub mod Cut
+pub mod Taken
+pub mod Unknown

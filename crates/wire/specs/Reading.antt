@@ -1,12 +1,15 @@
 -- What a reader answers. Assumes nothing.
-use Rattle.std.specs.Prelude.{◌≡◌, ℕ, ◌*◌, ◌/◌, ◌^◌, ◌<◌, List, length, Some, Option, Result, MatchOption, MatchResult, slice_index}
+use Rattle.std.specs.Prelude.{◌≡◌, ℕ, ◌*◌, ◌/◌, ◌^◌, ◌<◌, List, ◌∷◌, length, Some, Option, Result, MatchOption, MatchResult, slice_index}
 use Rattle.wire_theory.specs.Bytes.{Bytes, big, number, numbers, part}
 use Rattle.wire_theory.specs.Messages.{Encodes, Fits, Rising, encode}
 use Rattle.wire_theory.specs.Messages as msg
-use Rattle.wire_theory.specs.Shapes.{Shape}
+use Rattle.wire_theory.specs.Shapes.{AnswerShape, Shape}
 use Rattle.wire.specs.declared.refusal.Refusal.{Refusal}
 use Rattle.wire.specs.Refusals.{refusal_number}
 use Rattle.wire.specs.declared.message.Message.{Message}
+use Rattle.wire.specs.declared.kind.AnswerKind.{AnswerKind}
+use Rattle.wire.specs.declared.kind.Kind.{Kind}
+use Rattle.wire.specs.Kinds.{answer_number, kind_number}
 use Rattle.wire.specs.Sound.{Sound, Whole}
 use Rattle.wire.specs.Views.{message_of}
 
@@ -15,9 +18,13 @@ pub record Reads (s : Bytes) (m : Message) : Type 0 where
   pub encodes : Encodes encode Fits s (message_of m)
   pub sound : Sound m
 
--- the message whose bytes these are, or they haven't the shape of that kind
-abbrev pub OfKind : ℕ → Bytes → Option Message → Type 0
-OfKind kind s r = MatchOption r (Shape kind s → ⊥) (Reads s)
+-- the message of this kind with these bytes behind it, or they haven't the shape of that kind
+abbrev pub OfKind : Kind → Bytes → Option Message → Type 0
+OfKind kind body r = MatchOption r (Shape (kind_number kind) (kind_number kind ∷ body) → ⊥) (Reads (kind_number kind ∷ body))
+
+-- the same of a monitor's answer of this kind, behind both
+abbrev pub OfAnswer : AnswerKind → Bytes → Option Message → Type 0
+OfAnswer what body r = MatchOption r (AnswerShape (answer_number what) (29 ∷ (answer_number what ∷ body)) → ⊥) (Reads (29 ∷ (answer_number what ∷ body)))
 
 -- the message whose bytes these are; or 1, and they are those of no message
 abbrev pub ReadsOrRefuses : Bytes → Result Message Refusal → Type 0

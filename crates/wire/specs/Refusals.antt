@@ -1,5 +1,5 @@
 -- The number of each cause, and of each part of evidence that may not be so. Assumes nothing.
-use Rattle.std.specs.Prelude.{ℕ, List, Some, None, codes, Option}
+use Rattle.std.specs.Prelude.{◌≡◌, ℕ, List, Some, None, codes, Option, MatchOption}
 use Rattle.wire.specs.declared.refusal.Part.{Part}
 use Rattle.wire.specs.declared.refusal.Part.TheVariants as part
 use Rattle.wire.specs.declared.refusal.Refusal.{Refusal}
@@ -27,6 +27,11 @@ refusal_number refusal.Full = Some 12
 refusal_number (refusal.DoesNotConvict p) = Some 13
 refusal_number refusal.UsedUp = Some 14
 refusal_number refusal.NoMemory = None
+
+-- a refusal with this number, and of those of evidence the first part's; or none has it
+abbrev pub IsRefusalOf : ℕ → Option Refusal → Type 0
+IsRefusalOf n r =
+    MatchOption r ((f : Refusal) → refusal_number f ≡ Some n → ⊥) (λ f. (refusal_number f ≡ Some n) × ((p : Part) → f ≡ refusal.DoesNotConvict p → p ≡ part.OneLog))
 
 -- a writer refuses for want of memory, or with 1 since what it was to write is not well-formed
 abbrev pub Because : Type 0 → Refusal → Type 0

@@ -1,7 +1,7 @@
 -- The code's values as the definitions' values. Assumes nothing.
-use Rattle.std.specs.Prelude.{ℕ, List, length}
+use Rattle.std.specs.Prelude.{ℕ, List, length, map}
 use Rattle.model.specs.Objects as model
-use Rattle.wire_theory.specs.Bytes.{Bytes, row_of, numbers}
+use Rattle.wire_theory.specs.Bytes.{Bytes, number, row_of, numbers}
 use Rattle.wire_theory.specs.Messages as msg
 use Rattle.wire_theory.specs.Entries.{certificates_in}
 use Rattle.wire.specs.declared.certificate.Certificate.{Certificate}
@@ -9,7 +9,9 @@ use Rattle.wire.specs.declared.log.Sct.{Sct}
 use Rattle.wire.specs.declared.log.TreeHead.{TreeHead}
 use Rattle.wire.specs.declared.list.RevocationList.{RevocationList}
 use Rattle.wire.specs.declared.parts.Digests.{Digests}
+use Rattle.wire.specs.declared.parts.EachDigest.{EachDigest}
 use Rattle.wire.specs.declared.parts.Serials.{Serials}
+use Rattle.wire.specs.declared.parts.EachSerial.{EachSerial}
 use Rattle.wire.specs.declared.parts.Certificates.{Certificates}
 use Rattle.wire.specs.declared.message.MonitorAnswer.{MonitorAnswer}
 use Rattle.wire.specs.declared.message.MonitorAnswer.TheVariants as answer
@@ -40,6 +42,13 @@ digests_of ds = row_of 32 ds.bytes.now
 
 abbrev pub serials_of : Serials → List ℕ
 serials_of ns = numbers 8 ns.bytes.now
+
+-- what is yet to come
+abbrev pub digests_left : EachDigest → List Bytes
+digests_left e = e.rest.now
+
+abbrev pub serials_left : EachSerial → List ℕ
+serials_left e = map number e.rest.now
 
 abbrev pub certificates_of : Certificates → List model.Certificate
 certificates_of cs = certificates_in (length cs.bytes.now) cs.bytes.now

@@ -83,7 +83,7 @@ pub enum Message<'a> {
     Entries(Certificates<'a>),
     Answer(MonitorAnswer<'a>),
     Accepted,
-    // the number of the cause
+    // the number of the cause, any byte: a narrower type would ask more of whoever writes messages
     Refused {
         number: u8,
     },

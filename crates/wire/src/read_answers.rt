@@ -1,155 +1,101 @@
-// Reads what is answered, by any party.
-ghost use Rattle.std.specs.Prelude.{◌≡◌, MatchOption, slice_index};
-ghost use Rattle.wire_theory.specs.Shapes.{AnswerShape};
-ghost use Rattle.wire.specs.Reading.{OfKind, Reads};
+// Reads what is answered, by any party, behind its kind.
+ghost use Rattle.std.specs.Prelude.{◌≡◌, ◌+◌, ◌*◌, [], ◌∷◌, length, slice_index, MatchOption};
+ghost use Rattle.wire_theory.specs.Messages.{FitsPath, row};
+ghost use Rattle.wire.specs.Reading.{OfAnswer, OfKind};
+ghost use Rattle.wire.specs.Sound.{Whole};
+ghost use Rattle.wire.specs.Views.{digests_of};
 
-use crate::field::{bytes_at, number_at};
+use crate::fields::Fields;
+use crate::kind::{AnswerKind, Kind};
 use crate::message::{Message, MonitorAnswer};
 use crate::parts::{Certificates, Digests};
-use crate::read_signed::read_head;
-use crate::rows::are_certificates;
 
-pub(crate) fn inclusion(s: &[u8]) -> Option<Message<'_>>
-    requires { slice_index s.now 0 ≡ 26 }
-    ensures { OfKind 26 s.now result }
+// A path and nothing more.
+fn path(body: &[u8]) -> Option<Digests<'_>>
+    ensures { MatchOption result (length body.now ≡ 1 + 32 * slice_index body.now 0 → ⊥) (λ d. (body.now ≡ length (digests_of d) ∷ row (digests_of d)) × FitsPath (digests_of d) × Whole 32 d.bytes.now) }
 {
-    if s.len() < 2 {
-        return None;
-    }
-    let n = s[1] as usize;
-    if s.len() != 2 + 32 * n {
-        return None;
-    }
-    Some(Message::Inclusion(Digests {
-        bytes: bytes_at(s, 2, 32 * n),
-    }))
+    let mut fields = Fields::of(body);
+    let path = fields.path()?;
+    fields.end()?;
+    Some(path)
 }
 
-pub(crate) fn consistency(s: &[u8]) -> Option<Message<'_>>
-    requires { slice_index s.now 0 ≡ 27 }
-    ensures { OfKind 27 s.now result }
+pub(crate) fn inclusion(body: &[u8]) -> Option<Message<'_>>
+    ensures { OfKind Kind.Inclusion body.now result }
 {
-    if s.len() < 2 {
-        return None;
-    }
-    let n = s[1] as usize;
-    if s.len() != 2 + 32 * n {
-        return None;
-    }
-    Some(Message::Consistency(Digests {
-        bytes: bytes_at(s, 2, 32 * n),
-    }))
+    let path = path(body)?;
+    Some(Message::Inclusion(path))
 }
 
-pub(crate) fn entries(s: &[u8]) -> Option<Message<'_>>
-    requires { slice_index s.now 0 ≡ 28 }
-    ensures { OfKind 28 s.now result }
+pub(crate) fn consistency(body: &[u8]) -> Option<Message<'_>>
+    ensures { OfKind Kind.Consistency body.now result }
 {
-    if s.is_empty() {
-        return None;
-    }
-    let bytes = bytes_at(s, 1, s.len() - 1);
-    if !are_certificates(bytes) {
-        return None;
-    }
-    Some(Message::Entries(Certificates { bytes }))
+    let path = path(body)?;
+    Some(Message::Consistency(path))
 }
 
-fn included(s: &[u8]) -> Option<Message<'_>>
-    requires kind { slice_index s.now 0 ≡ 29 }
-    requires what { slice_index s.now 1 ≡ 1 }
-    ensures { MatchOption result (AnswerShape 1 s.now → ⊥) (Reads s.now) }
+pub(crate) fn entries(body: &[u8]) -> Option<Message<'_>>
+    ensures { OfKind Kind.Entries body.now result }
 {
-    if s.len() < 125 {
+    let certificates = Certificates { bytes: body };
+    if !certificates.are_whole() {
         return None;
     }
-    let n = s[124] as usize;
-    if s.len() != 125 + 32 * n {
-        return None;
-    }
-    let Some(head) = read_head(bytes_at(s, 2, 114)) else {
-        return None;
-    };
-    Some(Message::Answer(MonitorAnswer::Included {
-        head,
-        place: number_at(s, 116),
-        path: Digests {
-            bytes: bytes_at(s, 125, 32 * n),
-        },
-    }))
+    Some(Message::Entries(certificates))
 }
 
-fn convicts(s: &[u8]) -> Option<Message<'_>>
-    requires kind { slice_index s.now 0 ≡ 29 }
-    requires what { slice_index s.now 1 ≡ 3 }
-    ensures { MatchOption result (AnswerShape 3 s.now → ⊥) (Reads s.now) }
+fn included(body: &[u8]) -> Option<Message<'_>>
+    ensures { OfAnswer AnswerKind.Included body.now result }
 {
-    if s.len() < 116 {
-        return None;
-    }
-    let Some(head) = read_head(bytes_at(s, 2, 114)) else {
-        return None;
-    };
-    let n = head.count as usize;
-    if s.len() != 116 + 32 * n {
-        return None;
-    }
-    Some(Message::Answer(MonitorAnswer::Convicts {
-        head,
-        digests: Digests {
-            bytes: bytes_at(s, 116, 32 * n),
-        },
-    }))
+    let mut fields = Fields::of(body);
+    let head = fields.head()?;
+    let place = fields.number()?;
+    let path = fields.path()?;
+    fields.end()?;
+    Some(Message::Answer(MonitorAnswer::Included { head, place, path }))
 }
 
-// Of a monitor's answers these two say nothing more.
-fn not_due(s: &[u8]) -> Option<Message<'_>>
-    requires kind { slice_index s.now 0 ≡ 29 }
-    requires what { slice_index s.now 1 ≡ 2 }
-    ensures { MatchOption result (AnswerShape 2 s.now → ⊥) (Reads s.now) }
+fn convicts(body: &[u8]) -> Option<Message<'_>>
+    ensures { OfAnswer AnswerKind.Convicts body.now result }
 {
-    if s.len() != 2 {
-        return None;
-    }
-    Some(Message::Answer(MonitorAnswer::NotDue))
+    let mut fields = Fields::of(body);
+    let head = fields.head()?;
+    let digests = fields.digests(head.count as usize)?;
+    fields.end()?;
+    Some(Message::Answer(MonitorAnswer::Convicts { head, digests }))
 }
 
-fn no_head_so_late(s: &[u8]) -> Option<Message<'_>>
-    requires kind { slice_index s.now 0 ≡ 29 }
-    requires what { slice_index s.now 1 ≡ 4 }
-    ensures { MatchOption result (AnswerShape 4 s.now → ⊥) (Reads s.now) }
+// Nothing more than what was read of it, which says all. It makes the message in here, since whoever calls pays for room for it.
+pub(crate) fn bare<'a, F: FnOnce() -> Message<'a>>(body: &[u8], message: F) -> Option<Message<'a>>
+    requires { F.IsAlwaysCallable message }
+    ensures { MatchOption result (body.now ≡ [] → ⊥) (λ m. (body.now ≡ []) × F.post message m) }
 {
-    if s.len() != 2 {
-        return None;
-    }
-    Some(Message::Answer(MonitorAnswer::NoHeadSoLate))
-}
-
-pub(crate) fn monitor_answer(s: &[u8]) -> Option<Message<'_>>
-    requires { slice_index s.now 0 ≡ 29 }
-    ensures { OfKind 29 s.now result }
-{
-    if s.len() < 2 {
-        return None;
-    }
-    match s[1] {
-        1 => included(s),
-        2 => not_due(s),
-        3 => convicts(s),
-        4 => no_head_so_late(s),
-        0 | 5..=255 => None,
+    if body.is_empty() {
+        Some(message())
+    } else {
+        None
     }
 }
 
-pub(crate) fn refused(s: &[u8]) -> Option<Message<'_>>
-    requires { slice_index s.now 0 ≡ 31 }
-    ensures { OfKind 31 s.now result }
+pub(crate) fn monitor_answer(body: &[u8]) -> Option<Message<'_>>
+    ensures { OfKind Kind.Answer body.now result }
 {
-    if s.len() != 2 {
-        return None;
+    let (what, rest) = body.split_first()?;
+    match AnswerKind::try_from(*what).ok()? {
+        AnswerKind::Included => included(rest),
+        AnswerKind::NotDue => bare(rest, || Message::Answer(MonitorAnswer::NotDue)),
+        AnswerKind::Convicts => convicts(rest),
+        AnswerKind::NoHeadSoLate => bare(rest, || Message::Answer(MonitorAnswer::NoHeadSoLate)),
     }
-    let number = s[1];
-    if number < 1 || number > 14 {
+}
+
+pub(crate) fn refused(body: &[u8]) -> Option<Message<'_>>
+    ensures { OfKind Kind.Refused body.now result }
+{
+    let mut fields = Fields::of(body);
+    let number = fields.byte()?;
+    fields.end()?;
+    if !(1..=14).contains(&number) {
         return None;
     }
     Some(Message::Refused { number })

@@ -1,153 +1,118 @@
-// Reads what is asked, of any party.
-ghost use Rattle.std.specs.Prelude.{◌≡◌, slice_index};
+// Reads what is asked, of any party, behind its kind.
+ghost use Rattle.std.specs.Prelude.{◌≡◌, ◌++◌, length, MatchOption};
+ghost use Rattle.wire_theory.specs.Bytes.{big};
 ghost use Rattle.wire.specs.Reading.{OfKind};
 
-use crate::field::{bytes_at, key_at, nonce_at, number_at, signature_at};
+use crate::fields::Fields;
+use crate::kind::Kind;
 use crate::message::{Challenge, Message, Order};
-use crate::read_signed::{read_certificate, read_sct};
 
-pub(crate) fn order(s: &[u8]) -> Option<Message<'_>>
-    requires { slice_index s.now 0 ≡ 5 }
-    ensures { OfKind 5 s.now result }
+pub(crate) fn order(body: &[u8]) -> Option<Message<'_>>
+    ensures { OfKind Kind.Order body.now result }
 {
-    if s.len() < 34 {
-        return None;
-    }
-    let n = s[1] as usize;
-    if n > 64 || s.len() != 34 + n {
-        return None;
-    }
-    Some(Message::Order(Order {
-        name: bytes_at(s, 2, n),
-        key: key_at(s, 2 + n),
-    }))
-}
-
-pub(crate) fn challenge(s: &[u8]) -> Option<Message<'_>>
-    requires { slice_index s.now 0 ≡ 6 }
-    ensures { OfKind 6 s.now result }
-{
-    if s.len() != 25 {
-        return None;
-    }
-    Some(Message::Challenge(Challenge {
-        serial: number_at(s, 1),
-        nonce: nonce_at(s, 9),
-    }))
-}
-
-pub(crate) fn published(s: &[u8]) -> Option<Message<'_>>
-    requires { slice_index s.now 0 ≡ 7 }
-    ensures { OfKind 7 s.now result }
-{
-    if s.len() != 9 {
-        return None;
-    }
-    Some(Message::Published {
-        serial: number_at(s, 1),
-    })
-}
-
-pub(crate) fn submit(s: &[u8]) -> Option<Message<'_>>
-    requires { slice_index s.now 0 ≡ 8 }
-    ensures { OfKind 8 s.now result }
-{
-    if s.is_empty() {
-        return None;
-    }
-    let Some(certificate) = read_certificate(bytes_at(s, 1, s.len() - 1)) else {
-        return None;
+    let mut fields = Fields::of(body);
+    let order = Order {
+        name: fields.name()?,
+        key: fields.key()?,
     };
+    fields.end()?;
+    Some(Message::Order(order))
+}
+
+pub(crate) fn challenge(body: &[u8]) -> Option<Message<'_>>
+    ensures { OfKind Kind.Challenge body.now result }
+{
+    let mut fields = Fields::of(body);
+    let challenge = Challenge {
+        serial: fields.number()?,
+        nonce: fields.nonce()?,
+    };
+    fields.end()?;
+    Some(Message::Challenge(challenge))
+}
+
+pub(crate) fn published(body: &[u8]) -> Option<Message<'_>>
+    ensures { OfKind Kind.Published body.now result }
+{
+    let mut fields = Fields::of(body);
+    let serial = fields.number()?;
+    fields.end()?;
+    Some(Message::Published { serial })
+}
+
+pub(crate) fn submit(body: &[u8]) -> Option<Message<'_>>
+    ensures { OfKind Kind.Submit body.now result }
+{
+    let mut fields = Fields::of(body);
+    let certificate = fields.certificate()?;
+    fields.end()?;
     Some(Message::Submit(certificate))
 }
 
-pub(crate) fn get_inclusion(s: &[u8]) -> Option<Message<'_>>
-    requires { slice_index s.now 0 ≡ 10 }
-    ensures { OfKind 10 s.now result }
+// Two numbers and nothing more.
+fn two_numbers(body: &[u8]) -> Option<(u64, u64)>
+    ensures { MatchOption result (length body.now ≡ 16 → ⊥) (λ p. body.now ≡ big 8 p.0 ++ big 8 p.1) }
 {
-    if s.len() != 17 {
-        return None;
-    }
-    Some(Message::GetInclusion {
-        place: number_at(s, 1),
-        count: number_at(s, 9),
-    })
+    let mut fields = Fields::of(body);
+    let first = fields.number()?;
+    let second = fields.number()?;
+    fields.end()?;
+    Some((first, second))
 }
 
-pub(crate) fn get_consistency(s: &[u8]) -> Option<Message<'_>>
-    requires { slice_index s.now 0 ≡ 11 }
-    ensures { OfKind 11 s.now result }
+pub(crate) fn get_inclusion(body: &[u8]) -> Option<Message<'_>>
+    ensures { OfKind Kind.GetInclusion body.now result }
 {
-    if s.len() != 17 {
-        return None;
-    }
-    Some(Message::GetConsistency {
-        from: number_at(s, 1),
-        to: number_at(s, 9),
-    })
+    let (place, count) = two_numbers(body)?;
+    Some(Message::GetInclusion { place, count })
+}
+
+pub(crate) fn get_consistency(body: &[u8]) -> Option<Message<'_>>
+    ensures { OfKind Kind.GetConsistency body.now result }
+{
+    let (from, to) = two_numbers(body)?;
+    Some(Message::GetConsistency { from, to })
 }
 
 // At most 64 entries are asked for at once.
-pub(crate) fn get_entries(s: &[u8]) -> Option<Message<'_>>
-    requires { slice_index s.now 0 ≡ 12 }
-    ensures { OfKind 12 s.now result }
+pub(crate) fn get_entries(body: &[u8]) -> Option<Message<'_>>
+    ensures { OfKind Kind.GetEntries body.now result }
 {
-    if s.len() != 17 {
-        return None;
-    }
-    let from = number_at(s, 1);
-    let to = number_at(s, 9);
+    let (from, to) = two_numbers(body)?;
     if to.saturating_sub(from) > 64 {
         return None;
     }
     Some(Message::GetEntries { from, to })
 }
 
-pub(crate) fn revoke(s: &[u8]) -> Option<Message<'_>>
-    requires { slice_index s.now 0 ≡ 13 }
-    ensures { OfKind 13 s.now result }
+pub(crate) fn revoke(body: &[u8]) -> Option<Message<'_>>
+    ensures { OfKind Kind.Revoke body.now result }
 {
-    if s.len() != 73 {
-        return None;
-    }
-    Some(Message::Revoke {
-        serial: number_at(s, 1),
-        signature: signature_at(s, 9),
-    })
+    let mut fields = Fields::of(body);
+    let serial = fields.number()?;
+    let signature = fields.signature()?;
+    fields.end()?;
+    Some(Message::Revoke { serial, signature })
 }
 
-pub(crate) fn bring(s: &[u8]) -> Option<Message<'_>>
-    requires { slice_index s.now 0 ≡ 15 }
-    ensures { OfKind 15 s.now result }
+pub(crate) fn bring(body: &[u8]) -> Option<Message<'_>>
+    ensures { OfKind Kind.Bring body.now result }
 {
-    if s.len() < 107 {
-        return None;
-    }
-    let Some(certificate) = read_certificate(bytes_at(s, 1, s.len() - 107)) else {
-        return None;
-    };
-    let Some(sct) = read_sct(bytes_at(s, s.len() - 106, 106)) else {
-        return None;
-    };
+    let mut fields = Fields::of(body);
+    let certificate = fields.certificate()?;
+    let sct = fields.sct()?;
+    fields.end()?;
     Some(Message::Bring { certificate, sct })
 }
 
-pub(crate) fn present(s: &[u8]) -> Option<Message<'_>>
-    requires { slice_index s.now 0 ≡ 16 }
-    ensures { OfKind 16 s.now result }
+pub(crate) fn present(body: &[u8]) -> Option<Message<'_>>
+    ensures { OfKind Kind.Present body.now result }
 {
-    if s.len() < 213 {
-        return None;
-    }
-    let Some(certificate) = read_certificate(bytes_at(s, 1, s.len() - 213)) else {
-        return None;
-    };
-    let Some(first) = read_sct(bytes_at(s, s.len() - 212, 106)) else {
-        return None;
-    };
-    let Some(second) = read_sct(bytes_at(s, s.len() - 106, 106)) else {
-        return None;
-    };
+    let mut fields = Fields::of(body);
+    let certificate = fields.certificate()?;
+    let first = fields.sct()?;
+    let second = fields.sct()?;
+    fields.end()?;
     Some(Message::Present {
         certificate,
         first,

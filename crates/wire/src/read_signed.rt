@@ -1,107 +1,133 @@
-// Reads what is signed: certificates, promises, heads and revocation lists.
-ghost use Rattle.std.specs.Prelude.{◌≡◌, ◌*◌, ◌++◌, MatchOption};
-ghost use Rattle.wire_theory.specs.Entries.{FirstShape};
-ghost use Rattle.wire_theory.specs.Messages.{Encodes, FitsCertificate, FitsHead, FitsList, FitsSct, certificate_bytes, head_bytes, list_bytes, sct_bytes};
-ghost use Rattle.wire_theory.specs.Shapes.{CertificateShape, HeadShape, ListShape, SctShape};
-ghost use Rattle.wire.specs.Sound.{Whole};
-ghost use Rattle.wire.specs.Views.{certificate_of, head_of, list_of, sct_of};
+// Reads what is signed, as a message and as a part of one: certificates, promises, heads and revocation lists.
+ghost use Rattle.std.specs.Prelude.{◌≡◌, ◌∷◌, ◌++◌, MatchOption};
+ghost use Rattle.wire_theory.specs.Messages.{FitsCertificate, FitsHead, FitsSct, certificate_bytes, head_bytes, sct_bytes};
+ghost use Rattle.wire.specs.Reading.{OfKind};
+ghost use Rattle.wire.specs.Taking.{BeginsCertificate, BeginsHead, BeginsSct, TakesWhole};
+ghost use Rattle.wire.specs.Views.{certificate_of, head_of, sct_of};
 
 use crate::certificate::Certificate;
-use crate::field::{bytes_at, digest_at, key_at, number_at, short_at, signature_at};
+use crate::fields::Fields;
+use crate::kind::Kind;
 use crate::list::RevocationList;
 use crate::log::{Sct, TreeHead};
+use crate::message::Message;
 use crate::parts::Serials;
-use crate::rows::rising;
 
-pub(crate) fn read_certificate(s: &[u8]) -> Option<Certificate<'_>>
-    ensures { MatchOption result (CertificateShape s.now → ⊥) (λ c. Encodes certificate_bytes FitsCertificate s.now (certificate_of c)) }
-{
-    if s.len() < 115 || s[0] != 1 {
-        return None;
+// Each is read behind its kind where a message begins with it, and with its kind where it is a part of one.
+impl<'a> Fields<'a> {
+    pub(crate) fn certificate(&mut self) -> Option<Certificate<'a>>
+        ensures { TakesWhole BeginsCertificate certificate_bytes FitsCertificate certificate_of self.old self.new result }
+    {
+        self.kind(Kind::Certificate)?;
+        self.rest_of_certificate()
     }
-    let n = s[2] as usize;
-    if n > 64 || s.len() != 115 + n {
-        return None;
+
+    fn rest_of_certificate(&mut self) -> Option<Certificate<'a>>
+        ensures { TakesWhole BeginsCertificate certificate_bytes FitsCertificate certificate_of (1 ∷ self.old) self.new result }
+    {
+        Some(Certificate {
+            issuer: self.byte()?,
+            name: self.name()?,
+            key: self.key()?,
+            serial: self.number()?,
+            expiry: self.number()?,
+            signature: self.signature()?,
+        })
     }
-    Some(Certificate {
-        issuer: s[1],
-        name: bytes_at(s, 3, n),
-        key: key_at(s, 3 + n),
-        serial: number_at(s, 35 + n),
-        expiry: number_at(s, 43 + n),
-        signature: signature_at(s, 51 + n),
-    })
+
+    pub(crate) fn sct(&mut self) -> Option<Sct>
+        ensures { TakesWhole BeginsSct sct_bytes FitsSct sct_of self.old self.new result }
+    {
+        self.kind(Kind::Sct)?;
+        self.rest_of_sct()
+    }
+
+    fn rest_of_sct(&mut self) -> Option<Sct>
+        ensures { TakesWhole BeginsSct sct_bytes FitsSct sct_of (2 ∷ self.old) self.new result }
+    {
+        Some(Sct {
+            log: self.byte()?,
+            leaf: self.digest()?,
+            at: self.number()?,
+            signature: self.signature()?,
+        })
+    }
+
+    pub(crate) fn head(&mut self) -> Option<TreeHead>
+        ensures { TakesWhole BeginsHead head_bytes FitsHead head_of self.old self.new result }
+    {
+        self.kind(Kind::TreeHead)?;
+        self.rest_of_head()
+    }
+
+    fn rest_of_head(&mut self) -> Option<TreeHead>
+        ensures { TakesWhole BeginsHead head_bytes FitsHead head_of (3 ∷ self.old) self.new result }
+    {
+        let log = self.byte()?;
+        let at = self.number()?;
+        let count = self.number()?;
+        if count > 65536 {
+            return None;
+        }
+        Some(TreeHead {
+            log,
+            at,
+            count,
+            root: self.digest()?,
+            signature: self.signature()?,
+        })
+    }
 }
 
-// The certificate that the bytes begin with, and what stands behind it.
-pub(crate) fn first_certificate(s: &[u8]) -> Option<(Certificate<'_>, &[u8])>
-    ensures { MatchOption result (FirstShape s.now → ⊥) (λ p. (s.now ≡ certificate_bytes (certificate_of p.0) ++ p.1.now) × FitsCertificate (certificate_of p.0)) }
+// A reader for each kind. They share `Fields`; what is left is to say which fields these are, and that no byte is left behind them.
+pub(crate) fn certificate(body: &[u8]) -> Option<Message<'_>>
+    ensures { OfKind Kind.Certificate body.now result }
 {
-    if s.len() < 115 {
-        return None;
-    }
-    let n = 115 + s[2] as usize;
-    if s.len() < n {
-        return None;
-    }
-    let (first, rest) = s.split_at(n);
-    let Some(certificate) = read_certificate(first) else {
-        return None;
-    };
-    Some((certificate, rest))
+    let mut fields = Fields::of(body);
+    let certificate = fields.rest_of_certificate()?;
+    fields.end()?;
+    Some(Message::Certificate(certificate))
 }
 
-pub(crate) fn read_sct(s: &[u8]) -> Option<Sct>
-    ensures { MatchOption result (SctShape s.now → ⊥) (λ p. Encodes sct_bytes FitsSct s.now (sct_of p)) }
+pub(crate) fn sct(body: &[u8]) -> Option<Message<'_>>
+    ensures { OfKind Kind.Sct body.now result }
 {
-    if s.len() != 106 || s[0] != 2 {
-        return None;
-    }
-    Some(Sct {
-        log: s[1],
-        leaf: digest_at(s, 2),
-        at: number_at(s, 34),
-        signature: signature_at(s, 42),
-    })
+    let mut fields = Fields::of(body);
+    let sct = fields.rest_of_sct()?;
+    fields.end()?;
+    Some(Message::Sct(sct))
 }
 
-pub(crate) fn read_head(s: &[u8]) -> Option<TreeHead>
-    ensures { MatchOption result (HeadShape s.now → ⊥) (λ h. Encodes head_bytes FitsHead s.now (head_of h)) }
+pub(crate) fn tree_head(body: &[u8]) -> Option<Message<'_>>
+    ensures { OfKind Kind.TreeHead body.now result }
 {
-    if s.len() != 114 || s[0] != 3 {
-        return None;
-    }
-    let count = number_at(s, 10);
-    if count > 65536 {
-        return None;
-    }
-    Some(TreeHead {
-        log: s[1],
-        at: number_at(s, 2),
-        count,
-        root: digest_at(s, 18),
-        signature: signature_at(s, 50),
-    })
+    let mut fields = Fields::of(body);
+    let head = fields.rest_of_head()?;
+    fields.end()?;
+    Some(Message::TreeHead(head))
 }
 
-pub(crate) fn read_list(s: &[u8]) -> Option<RevocationList<'_>>
-    ensures { MatchOption result (ListShape s.now → ⊥) (λ l. Encodes list_bytes FitsList s.now (list_of l) × Whole 8 l.serials.bytes.now) }
+pub(crate) fn revocation_list(body: &[u8]) -> Option<Message<'_>>
+    ensures { OfKind Kind.RevocationList body.now result }
 {
-    if s.len() < 76 || s[0] != 4 {
+    let mut fields = Fields::of(body);
+    let authority = fields.byte()?;
+    let at = fields.number()?;
+    let count = fields.short()?;
+    if count > 1024 {
         return None;
     }
-    let n = short_at(s, 10) as usize;
-    if n > 1024 || s.len() != 76 + 8 * n {
+    let bytes = fields.bytes(8 * count as usize)?;
+    let serials = Serials { bytes };
+    if !serials.are_rising() {
         return None;
     }
-    let bytes = bytes_at(s, 12, 8 * n);
-    if !rising(bytes, n) {
-        return None;
-    }
-    Some(RevocationList {
-        authority: s[1],
-        at: number_at(s, 2),
-        serials: Serials { bytes },
-        signature: signature_at(s, 12 + 8 * n),
-    })
+    let signature = fields.signature()?;
+    fields.end()?;
+    Some(Message::RevocationList(RevocationList {
+        authority,
+        at,
+        serials,
+        signature,
+    }))
 }

@@ -1,21 +1,23 @@
 // Why something is refused.
-ghost use Rattle.std.specs.Prelude.{◌≡◌};
+ghost use Rattle.std.specs.Prelude.{◌≡◌, Some};
 ghost use Rattle.wire.specs.declared.refusal.Refusal.TheVariants.{NoMemory};
-ghost use Rattle.wire.specs.Refusals.{cause_text, part_number, refusal_number};
+ghost use Rattle.wire.specs.Refusals.{IsRefusalOf, cause_text, part_number, refusal_number};
 
 use std::alloc::{AllocError, AllocFailed};
+use std::error::Error;
+use std::fmt;
 
 // Which part of the evidence is not so.
-#[derive(Clone, Copy)]
+#[derive(Clone, Copy, PartialEq, Eq, Debug)]
 pub enum Part {
     // promise and head are of one log
-    OneLog,
+    OneLog = 1,
     // the head's tick is not below the promise's and the maximum merge delay
-    LateEnough,
+    LateEnough = 2,
     // the promised digest is not among the entries'
-    NotAmong,
+    NotAmong = 3,
     // the digests give the head's root
-    GiveRoot,
+    GiveRoot = 4,
 }
 
 impl Part {
@@ -23,16 +25,11 @@ impl Part {
     pub fn number(&self) -> u8
         ensures { result ≡ part_number self.now }
     {
-        match self {
-            Part::OneLog => 1,
-            Part::LateEnough => 2,
-            Part::NotAmong => 3,
-            Part::GiveRoot => 4,
-        }
+        *self as u8
     }
 }
 
-#[derive(Clone, Copy)]
+#[derive(Clone, Copy, PartialEq, Eq, Debug)]
 pub enum Refusal {
     // unknown kind, bad length
     Unreadable,
@@ -63,7 +60,7 @@ pub enum Refusal {
 }
 
 impl Refusal {
-    // The refusal's number; want of memory has none.
+    // The refusal's number; want of memory has none, so that these are no discriminants.
     pub fn code(&self) -> Option<u8>
         ensures { result ≡ refusal_number self.now }
     {
@@ -83,6 +80,29 @@ impl Refusal {
             Refusal::DoesNotConvict(_) => Some(13),
             Refusal::UsedUp => Some(14),
             Refusal::NoMemory => None,
+        }
+    }
+
+    // A refusal with this number; which part of the evidence is not so, a number doesn't tell, so it is the first.
+    pub fn from_number(number: u8) -> Option<Refusal>
+        ensures { IsRefusalOf number result }
+    {
+        match number {
+            1 => Some(Refusal::Unreadable),
+            2 => Some(Refusal::NotThere),
+            3 => Some(Refusal::WrongSignature),
+            4 => Some(Refusal::NotPublished),
+            5 => Some(Refusal::OldHead),
+            6 => Some(Refusal::LeadsElsewhere),
+            7 => Some(Refusal::OtherRoot),
+            8 => Some(Refusal::OtherPromise),
+            9 => Some(Refusal::Expired),
+            10 => Some(Refusal::NoFreshList),
+            11 => Some(Refusal::Revoked),
+            12 => Some(Refusal::Full),
+            13 => Some(Refusal::DoesNotConvict(Part::OneLog)),
+            14 => Some(Refusal::UsedUp),
+            _ => None,
         }
     }
 
@@ -111,6 +131,17 @@ impl Refusal {
     }
 }
 
+impl fmt::Display for Refusal {
+    ghost output = { λ r. Some (cause_text r) };
+
+    fn fmt<W: fmt::Write>(&self, f: &mut fmt::Formatter<W>) -> fmt::Result {
+        f.write_str(self.cause())
+    }
+}
+
+impl Error for Refusal {}
+
+// By hand, so that a contract knows which error a `?` makes.
 impl From<AllocError> for Refusal {
     ghost from_gives = { λ _ r. r ≡ NoMemory };
 

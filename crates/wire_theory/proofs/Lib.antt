@@ -1,6 +1,5 @@
 pub mod Numbers
 pub mod Rows
-pub mod Laid
 pub mod Shaped
 pub mod Follows
 pub mod Decoded

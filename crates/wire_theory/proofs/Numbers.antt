@@ -19,7 +19,7 @@ unfolding big
 length-big zero n = refl
 length-big (suc w) n = ap suc (length-big w n)
 
-number_below : (bs : Bytes) → Small bs → number bs < 256 ^ length bs
+pub number_below : (bs : Bytes) → Small bs → number bs < 256 ^ length bs
 unfolding number
 number_below [] h = omega arith
 number_below (b ∷ bs) h =

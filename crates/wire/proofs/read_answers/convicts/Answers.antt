@@ -1,17 +1,15 @@
-use Rattle.std.proofs.Common.{◌≡◌, sym, ap, ◌∙◌, arith}
-use Rattle.wire_theory.specs.Bytes.{number, part}
-use Rattle.wire_theory.proofs.Shaped.{count_told}
-use Rattle.wire_theory.proofs.Laid.{convicts_laid}
+use Rattle.std.proofs.Common.{sym, ◌∙◌, arith}
+use Rattle.wire.proofs.Taken.{convicts_read, row_taken}
+use Rattle.wire.proofs.Begun.{convicts_digests, row_ends}
 use Rattle.wire.proofs.read_answers.convicts.Goals as goal
 
-pub returns-then-s-n : goal.returns-then-s-n
-returns-then-s-n c =
-    λ shape. let count : number (part 10 8 (part 2 114 c.args.s.now)) ≡ c.in-Some.head.count = ap (λ a. number (part 10 8 a)) (sym c.bytes_at.ensures.value) ∙ count_told _ _ c.in-Some.ensures in
-    omega (arith, shape.2, count)
+pub returns-in_err-digests : goal.returns-in_err-digests
+returns-in_err-digests c = rw c.from_residual-in_err-digests.ensures (λ shape. omega (arith, c.in_err-digests.ensures, convicts_digests _ _ _ (sym c.of-fields.ensures ∙ c.in_ok-head.ensures.0, c.in_ok-head.ensures.1) shape))
+
+pub returns-in_err-end : goal.returns-in_err-end
+returns-in_err-end c = rw c.from_residual-in_err-end.ensures (λ shape. c.in_err-end.ensures (row_ends _ _ _ _ c.in_ok-digests.ensures (convicts_digests _ _ _ (sym c.of-fields.ensures ∙ c.in_ok-head.ensures.0, c.in_ok-head.ensures.1) shape)))
 
 pub returns : goal.returns
 returns c =
-    record {
-      encodes = convicts_laid _ _ _ _ c.requires.kind c.requires.what (omega arith) c.bytes_at.ensures.value c.in-Some.ensures c.bytes_at-2.ensures.value;
-      sound = omega (arith, c.bytes_at-2.ensures.len);
-    }
+    let rest = row_taken _ _ c.in_ok-digests.digests _ c.in_ok-digests.ensures c.in_ok-end.ensures in
+    record { encodes = convicts_read _ _ _ _ (sym c.of-fields.ensures ∙ c.in_ok-head.ensures.0, c.in_ok-head.ensures.1) rest.0 rest.1 rest.2; sound = rest.3 }

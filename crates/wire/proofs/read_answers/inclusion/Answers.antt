@@ -1,10 +1,5 @@
-use Rattle.std.proofs.Common.{refl, arith, rules}
-use Rattle.wire_theory.proofs.Laid.{inclusion_laid}
+use Rattle.wire.proofs.Taken.{inclusion_read}
 use Rattle.wire.proofs.read_answers.inclusion.Goals as goal
 
 pub returns : goal.returns
-returns c =
-    record {
-      encodes = inclusion_laid _ _ _ c.requires refl (search rules) (omega arith) c.bytes_at.ensures.value;
-      sound = omega (arith, c.bytes_at.ensures.len);
-    }
+returns c = record { encodes = inclusion_read _ _ c.in_ok-path.ensures.0 c.in_ok-path.ensures.1; sound = c.in_ok-path.ensures.2 }

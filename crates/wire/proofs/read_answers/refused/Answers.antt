@@ -1,10 +1,6 @@
-use Rattle.std.proofs.Common.{refl, arith}
-use Rattle.wire_theory.proofs.Laid.{refused_laid}
+use Rattle.std.proofs.Common.{sym, ◌∙◌, rules}
+use Rattle.wire.proofs.Taken.{refused_read}
 use Rattle.wire.proofs.read_answers.refused.Goals as goal
 
 pub returns : goal.returns
-returns c =
-    record {
-      encodes = refused_laid _ _ c.requires (omega arith) refl (omega arith) (omega arith);
-      sound = tt;
-    }
+returns c = record { encodes = refused_read _ _ _ (sym c.of-fields.ensures ∙ c.in_ok-number.ensures.0) c.in_ok-end.ensures (search rules) (search rules); sound = tt }

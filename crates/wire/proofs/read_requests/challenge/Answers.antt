@@ -1,10 +1,6 @@
-use Rattle.std.proofs.Common.{arith}
-use Rattle.wire_theory.proofs.Laid.{challenge_laid}
+use Rattle.std.proofs.Common.{sym, ◌∙◌, arith}
+use Rattle.wire.proofs.Taken.{challenge_read}
 use Rattle.wire.proofs.read_requests.challenge.Goals as goal
 
 pub returns : goal.returns
-returns c =
-    record {
-      encodes = challenge_laid _ _ _ c.requires (omega arith) c.number_at.ensures c.nonce_at.ensures;
-      sound = tt;
-    }
+returns c = record { encodes = challenge_read _ _ _ _ _ (sym c.of-fields.ensures ∙ c.in_ok-number.ensures.0) (omega arith) c.in_ok-nonce.ensures c.in_ok-end.ensures; sound = tt }

@@ -1,10 +1,6 @@
-use Rattle.std.proofs.Common.{refl, arith}
-use Rattle.wire_theory.proofs.Laid.{order_laid}
+use Rattle.std.proofs.Common.{sym, ◌∙◌}
+use Rattle.wire.proofs.Taken.{order_read}
 use Rattle.wire.proofs.read_requests.order.Goals as goal
 
 pub returns : goal.returns
-returns c =
-    record {
-      encodes = order_laid _ _ _ _ c.requires refl (omega arith) (omega arith) c.bytes_at.ensures.value c.key_at.ensures;
-      sound = tt;
-    }
+returns c = record { encodes = order_read _ _ _ _ _ (sym c.of-fields.ensures ∙ c.in_ok-name.ensures.0, c.in_ok-name.ensures.1) c.in_ok-key.ensures c.in_ok-end.ensures; sound = tt }

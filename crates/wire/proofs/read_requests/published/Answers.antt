@@ -1,10 +1,6 @@
-use Rattle.std.proofs.Common.{arith}
-use Rattle.wire_theory.proofs.Laid.{published_laid}
+use Rattle.std.proofs.Common.{sym, ◌∙◌, arith}
+use Rattle.wire.proofs.Taken.{published_read}
 use Rattle.wire.proofs.read_requests.published.Goals as goal
 
 pub returns : goal.returns
-returns c =
-    record {
-      encodes = published_laid _ _ c.requires (omega arith) c.number_at.ensures;
-      sound = tt;
-    }
+returns c = record { encodes = published_read _ _ _ (sym c.of-fields.ensures ∙ c.in_ok-serial.ensures.0) (omega arith) c.in_ok-end.ensures; sound = tt }

@@ -1,13 +1,18 @@
-use Rattle.std.proofs.Common.{◌≡◌, sym, ap, ◌∙◌, arith}
-use Rattle.wire_theory.specs.Bytes.{number, part}
-use Rattle.wire_theory.proofs.Shaped.{count_told}
-use Rattle.wire_theory.proofs.Laid.{evidence_laid}
+use Rattle.std.proofs.Common.{sym, ◌∙◌, arith}
+use Rattle.wire.proofs.Taken.{evidence_read, row_taken}
+use Rattle.wire.proofs.Begun.{evidence_digests, evidence_head, row_ends}
 use Rattle.wire.proofs.reader.evidence.Goals as goal
 
-pub returns-then-s-n : goal.returns-then-s-n
-returns-then-s-n c =
-    λ shape. let count : number (part 10 8 (part 106 114 c.args.s.now)) ≡ c.in-Some-read_head.head.count = ap (λ a. number (part 10 8 a)) (sym c.bytes_at-2.ensures.value) ∙ count_told _ _ c.in-Some-read_head.ensures in
-    omega (arith, shape.3, count)
+pub returns-in_err-head : goal.returns-in_err-head
+returns-in_err-head c = rw c.from_residual-in_err-head.ensures (λ shape. c.in_err-head.ensures (evidence_head _ _ _ (sym c.of-fields.ensures ∙ c.in_ok-sct.ensures.0, c.in_ok-sct.ensures.1) shape))
+
+pub returns-in_err-digests : goal.returns-in_err-digests
+returns-in_err-digests c = rw c.from_residual-in_err-digests.ensures (λ shape. omega (arith, c.in_err-digests.ensures, evidence_digests _ _ _ _ _ (sym c.of-fields.ensures ∙ c.in_ok-sct.ensures.0, c.in_ok-sct.ensures.1) c.in_ok-head.ensures shape))
+
+pub returns-in_err-end : goal.returns-in_err-end
+returns-in_err-end c = rw c.from_residual-in_err-end.ensures (λ shape. c.in_err-end.ensures (row_ends _ _ _ _ c.in_ok-digests.ensures (evidence_digests _ _ _ _ _ (sym c.of-fields.ensures ∙ c.in_ok-sct.ensures.0, c.in_ok-sct.ensures.1) c.in_ok-head.ensures shape)))
 
 pub returns : goal.returns
-returns c = evidence_laid _ _ _ _ _ _ (omega arith) c.bytes_at.ensures.value c.bytes_at-2.ensures.value c.in-Some.ensures c.in-Some-read_head.ensures c.bytes_at-3.ensures.value
+returns c =
+    let rest = row_taken _ _ c.in_ok-digests.digests _ c.in_ok-digests.ensures c.in_ok-end.ensures in
+    evidence_read _ _ _ _ _ _ (sym c.of-fields.ensures ∙ c.in_ok-sct.ensures.0, c.in_ok-sct.ensures.1) c.in_ok-head.ensures rest.0 rest.1 rest.2

@@ -1,5 +1,5 @@
-use Rattle.wire_theory.proofs.Follows.{first_shaped}
+use Rattle.wire.proofs.Begun.{begins_certificate}
 use Rattle.wire.proofs.parts.Certificates.split_first.Goals as goal
 
-pub returns-in_default : goal.returns-in_default
-returns-in_default c = λ begins. c.in_default.ensures (first_shaped _ begins)
+pub returns-in_err-first : goal.returns-in_err-first
+returns-in_err-first c = rw c.from_residual.ensures (λ begins. c.in_err-first.ensures (begins_certificate _ (rw c.of-fields.ensures begins)))
