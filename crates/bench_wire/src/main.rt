@@ -37,10 +37,10 @@ fn self_check(rt: &HostRuntime) -> anyhow::Result<()> {
     let heap = rt.alloc();
     let certificate = certificate(heap)?;
     let list = revocation_list(heap, 1024)?;
-    let a = read_all(certificate.as_slice(), 3);
-    let b = write_all(heap, certificate.as_slice(), 3);
-    let c = read_all(list.as_slice(), 3);
-    let d = write_all(heap, list.as_slice(), 3);
+    let a = read_all(&certificate, 3);
+    let b = write_all(heap, &certificate, 3);
+    let c = read_all(&list, 3);
+    let d = write_all(heap, &list, 3);
     println!(rt; "certificates {a} {b} lists {c} {d}")?;
     Ok(())
 }
@@ -53,11 +53,11 @@ fn run(rt: &HostRuntime) -> anyhow::Result<()> {
     };
     let times = word.parse::<u64>()?;
     let heap = rt.alloc();
-    measure(rt, "certificates", certificate(heap)?.as_slice(), times)?;
+    measure(rt, "certificates", &certificate(heap)?, times)?;
     measure(
         rt,
         "lists of 1024 serials",
-        revocation_list(heap, 1024)?.as_slice(),
+        &revocation_list(heap, 1024)?,
         times / 50,
     )
 }

@@ -9,21 +9,23 @@ mod worst;
 use crate::examples::{EXAMPLES, Example};
 use crate::tally::Tally;
 use crate::worst::{longest_name, most_digests, most_serials};
-use anyhow::anyhow;
+use anyhow::Context;
 use show::bytes_from_hex;
 use std::alloc::Global;
 
 fn cut(heap: Global, s: &[u8]) -> Tally {
-    let mut tally = Tally::NONE;
+    let mut tally = Tally::default();
+    // The length is what is tried.
     for n in 0..s.len() {
-        tally = tally.with(heap, &s[0..n]);
+        tally.add(heap, &s[..n]);
     }
     tally
 }
 
 // Each byte in six other ways, one at a time.
 fn changed(heap: Global, s: &mut [u8]) -> Tally {
-    let mut tally = Tally::NONE;
+    let mut tally = Tally::default();
+    // Each change is seen by the reader in the whole, so the bytes aren't lent out one by one.
     for i in 0..s.len() {
         let old = s[i];
         for other in [
@@ -35,7 +37,7 @@ fn changed(heap: Global, s: &mut [u8]) -> Tally {
             old.wrapping_add(16),
         ] {
             s[i] = other;
-            tally = tally.with(heap, s);
+            tally.add(heap, s);
         }
         s[i] = old;
     }
@@ -45,11 +47,12 @@ fn changed(heap: Global, s: &mut [u8]) -> Tally {
 // Prints what came of one example, and gives how many answers differ.
 fn run_example(rt: &HostRuntime, example: &Example) -> anyhow::Result<u64> {
     let heap = rt.alloc();
-    let Some(mut bytes) = bytes_from_hex(heap, example.digits.as_bytes())? else {
-        return Err(anyhow!("an example isn't in hexadecimal digits"));
-    };
-    let whole = Tally::NONE.with(heap, bytes.as_slice());
-    let cut = cut(heap, bytes.as_slice());
+    let mut bytes = bytes_from_hex(heap, example.digits.as_bytes())?.context(
+        "an example isn't in hexadecimal digits",
+    )?;
+    let mut whole = Tally::default();
+    whole.add(heap, &bytes);
+    let cut = cut(heap, &bytes);
     let length = bytes.len();
     let changed = changed(heap, &mut bytes);
     let name = example.name;
@@ -58,7 +61,7 @@ fn run_example(rt: &HostRuntime, example: &Example) -> anyhow::Result<u64> {
     println!(rt;
         "{name}: {length} bytes; cut {a} accepted {b} refused; changed {c} accepted {d} refused"
     )?;
-    let missing = 1u64.saturating_sub(whole.accepted);
+    let missing = u64::from(whole.accepted == 0);
     Ok(
         missing
             .saturating_add(cut.wrong)
@@ -68,7 +71,8 @@ fn run_example(rt: &HostRuntime, example: &Example) -> anyhow::Result<u64> {
 
 // Prints what came of bytes of a worst size.
 fn run_worst(rt: &HostRuntime, name: &str, s: &[u8]) -> anyhow::Result<u64> {
-    let tally = Tally::NONE.with(rt.alloc(), s);
+    let mut tally = Tally::default();
+    tally.add(rt.alloc(), s);
     let length = s.len();
     if tally.accepted == 1 {
         println!(rt; "{name}: {length} bytes read and written back")?;
@@ -81,19 +85,18 @@ fn run_worst(rt: &HostRuntime, name: &str, s: &[u8]) -> anyhow::Result<u64> {
 fn run(rt: &HostRuntime) -> anyhow::Result<()> {
     let heap = rt.alloc();
     let mut differ = 0u64;
-    for example in EXAMPLES.iter() {
+    for example in &EXAMPLES {
         differ = differ.saturating_add(run_example(rt, example)?);
     }
-    let name = longest_name(heap)?;
-    differ = differ.saturating_add(run_worst(rt, "longest name", name.as_slice())?);
-    let serials = most_serials(heap, 1024)?;
-    differ = differ.saturating_add(run_worst(rt, "most serials", serials.as_slice())?);
-    let digests = most_digests(heap, 65536)?;
-    differ = differ.saturating_add(run_worst(rt, "most digests", digests.as_slice())?);
-    let serials = most_serials(heap, 1025)?;
-    differ = differ.saturating_add(run_worst(rt, "one serial too many", serials.as_slice())?);
-    let digests = most_digests(heap, 65535)?;
-    differ = differ.saturating_add(run_worst(rt, "one digest too few", digests.as_slice())?);
+    for (name, bytes) in [
+        ("longest name", longest_name(heap)?),
+        ("most serials", most_serials(heap, 1024)?),
+        ("most digests", most_digests(heap, 65536)?),
+        ("one serial too many", most_serials(heap, 1025)?),
+        ("one digest too few", most_digests(heap, 65535)?),
+    ] {
+        differ = differ.saturating_add(run_worst(rt, name, &bytes)?);
+    }
     println!(rt; "{differ} answers differ")?;
     Ok(())
 }

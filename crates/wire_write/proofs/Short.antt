@@ -1,5 +1,6 @@
 -- Rows that are short enough, and those that are not. Assumes nothing.
-use Rattle.std.proofs.Common.{◌≡◌, ℕ, ◌*◌, ◌/◌, ◌^◌, ◌<◌, ◌≤◌, length, ap, subst, arith}
+use Rattle.std.proofs.Common.{◌≡◌, ℕ, ◌*◌, ◌/◌, ◌^◌, ◌<◌, ◌≤◌, Bool, true, false, length, Option, MatchOption, refl, ap, subst, arith}
+use Rattle.std.specs.Bool.{Decides, MatchBool, then_some}
 use Rattle.wire_theory.specs.Bytes.{Bytes, numbers, row_of}
 use Rattle.wire_theory.specs.Messages.{SignedList, FitsList, FitsPath, FitDigests}
 use Rattle.wire_theory.proofs.Rows.{digests_fit, numbers_at, numbers_long, rows_long}
@@ -36,3 +37,12 @@ pub list_ready : (m : Message) (l : RevocationList) → m ≡ message.Revocation
 list_ready m l is ready =
     let r : Ready (message.RevocationList l) = subst Ready is ready in
     (r.copied, omega (arith, numbers_long l.serials.bytes.now, r.fits.few, r.sound))
+
+-- a value that is given where a test holds
+pub given_where : {A P Q N : Type 0} (S : A → Type 0) (b : Bool) {x : A} {r : Option A} → MatchBool b P Q → r ≡ then_some b x → (P → S x) → (Q → N) → MatchOption r N S
+given_where S true p e given left = rw e (given p)
+given_where S false q e given left = rw e (left q)
+
+pub decided : {P : Type 0} (b : Bool) → Decides b P → MatchBool b P (P → ⊥)
+decided true d = d.0 refl
+decided false d = λ p. cc (d.1 p)

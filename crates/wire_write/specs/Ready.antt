@@ -1,6 +1,6 @@
 -- What is needed to write a message, and how many bytes it takes. Assumes nothing.
 use Rattle.std.specs.Prelude.{◌≡◌, ℕ, ◌+◌, length, Option, MatchOption}
-use Rattle.wire_theory.specs.Messages.{Fits}
+use Rattle.wire_theory.specs.Messages.{Fits, FitsAnswer}
 use Rattle.wire.specs.declared.certificate.Certificate.{Certificate}
 use Rattle.wire.specs.declared.list.RevocationList.{RevocationList}
 use Rattle.wire.specs.declared.message.MonitorAnswer.{MonitorAnswer}
@@ -8,8 +8,8 @@ use Rattle.wire.specs.declared.message.MonitorAnswer.TheVariants as answer
 use Rattle.wire.specs.declared.message.Message.{Message}
 use Rattle.wire.specs.declared.message.Message.TheVariants as message
 use Rattle.wire.specs.Reading.{RisingRow}
-use Rattle.wire.specs.Sound.{Sound}
-use Rattle.wire.specs.Views.{message_of}
+use Rattle.wire.specs.Sound.{Sound, SoundAnswer}
+use Rattle.wire.specs.Views.{answer_of, message_of}
 
 abbrev pub certificate_size : Certificate → ℕ
 certificate_size c = 115 + length c.name.now
@@ -71,6 +71,11 @@ Copied (message.Entries cs) = Unit {0}
 Copied (message.Answer a) = Unit {0}
 Copied message.Accepted = Unit {0}
 Copied (message.Refused number) = Unit {0}
+
+-- what is needed to write a monitor's answer
+pub record ReadyAnswer (a : MonitorAnswer) : Type 0 where
+  pub fits : FitsAnswer (answer_of a)
+  pub sound : SoundAnswer a
 
 pub record Ready (m : Message) : Type 0 where
   pub fits : Fits (message_of m)

@@ -6,10 +6,12 @@ ghost use Rattle.wire.specs.Views.{certificate_of, list_of};
 ghost use Rattle.wire_write.specs.Owned.{owned_certificate_of, owned_list_of};
 
 use crate::owned::{OwnedCertificate, OwnedList};
+use crate::put::eight_bytes;
 use std::alloc::{AllocError, Global};
 use wire::{Certificate, RevocationList};
 
 impl OwnedCertificate {
+    // It asks for memory, so it is no `From`.
     pub fn from_borrowed(
         heap: Global,
         certificate: &Certificate,
@@ -26,33 +28,29 @@ impl OwnedCertificate {
             signature: certificate.signature,
         })
     }
+}
 
-    pub fn borrowed(&self) -> Certificate<'_>
-        ensures { certificate_of result ≡ owned_certificate_of self.now }
-    {
+impl<'a> From<&'a OwnedCertificate> for Certificate<'a> {
+    ghost from_gives = { λ owned c. certificate_of c ≡ owned_certificate_of owned.now };
+
+    fn from(owned: &'a OwnedCertificate) -> Certificate<'a> {
         Certificate {
-            issuer: self.issuer,
-            name: self.name.as_slice(),
-            key: self.key,
-            serial: self.serial,
-            expiry: self.expiry,
-            signature: self.signature,
+            issuer: owned.issuer,
+            name: &owned.name,
+            key: owned.key,
+            serial: owned.serial,
+            expiry: owned.expiry,
+            signature: owned.signature,
         }
     }
 }
 
 impl OwnedList {
+    // It asks for memory, as the certificate's does.
     pub fn from_borrowed(heap: Global, list: &RevocationList) -> Result<OwnedList, AllocError>
         ensures { IfOk result (λ l. owned_list_of l ≡ list_of list.now) }
     {
-        let mut serials = Vec::new(heap);
-        let count = list.serials.len();
-        for i in 0..count {
-            let Some(serial) = list.serials.get(i) else {
-                return Err(AllocError);
-            };
-            serials.push(serial)?;
-        }
+        let serials = list.serials.iter().collect(heap)?;
         Ok(OwnedList {
             authority: list.authority,
             at: list.at,
@@ -66,8 +64,8 @@ impl OwnedList {
         ensures { IfOk result (λ v. v.items ≡ flat_map (big 8) self.now.serials.items) }
     {
         let mut bytes = Vec::new(heap);
-        for serial in self.serials.iter() {
-            bytes.extend_from_slice(&serial.to_be_bytes())?;
+        for serial in &self.serials {
+            bytes.extend_from_slice(&eight_bytes(*serial))?;
         }
         Ok(bytes)
     }

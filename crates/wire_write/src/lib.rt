@@ -12,8 +12,5 @@ mod writer;
 
 pub use owned::{OwnedCertificate, OwnedList};
 pub use put::write_number;
-pub use signed::{
-    signed_part, write_signed_certificate, write_signed_head, write_signed_list,
-    write_signed_revoke, write_signed_sct,
-};
+pub use signed::{signed_part, write_signed, write_signed_revoke};
 pub use writer::{write, write_evidence, write_settings};

@@ -1,97 +1,137 @@
-// Appends what is signed: first the bytes that are signed, then the signature.
-ghost use Rattle.std.specs.Prelude.{◌≡◌, ◌+◌, ◌≤◌, length, vec_len, vec_capacity};
-ghost use Rattle.wire_theory.specs.Messages.{certificate_bytes, head_bytes, list_bytes, sct_bytes, signed_certificate, signed_head, signed_list, signed_sct};
+// The four things that are signed.
+ghost use Rattle.std.specs.Prelude.{◌≡◌, ◌+◌, ◌≤◌, length};
+ghost use Rattle.wire_theory.specs.Messages.{FitsCertificate, FitsHead, FitsList, FitsSct, signed_certificate, signed_head, signed_list, signed_sct};
 ghost use Rattle.wire.specs.Reading.{RisingRow};
+ghost use Rattle.wire.specs.Sound.{Whole};
 ghost use Rattle.wire.specs.Views.{certificate_of, head_of, list_of, sct_of};
-ghost use Rattle.wire_write.specs.Grows.{Grows};
 
-use crate::put::{put, put_number};
-use wire::{Certificate, RevocationList, Sct, TreeHead};
+use crate::put::Put;
+use crate::signed::Signed;
+use crate::sizes::SCT_SIZE;
+use wire::{Certificate, Kind, RevocationList, Sct, Signature, TreeHead};
 
-pub(crate) fn put_signed_certificate(out: &mut Vec<u8>, certificate: &Certificate)
-    requires room { vec_len out.old + 51 + (length certificate.now.name.now) ≤ vec_capacity out.old }
-    requires short { length certificate.now.name.now ≤ 64 }
-    ensures grows { Grows out.old out.new (signed_certificate (certificate_of certificate.now)) }
-    ensures len { vec_len out.new ≡ vec_len out.old + 51 + (length certificate.now.name.now) }
-{
-    let name = certificate.name;
-    put(out, &[1, certificate.issuer, name.len() as u8]);
-    put(out, name);
-    put(out, &certificate.key.bytes);
-    put_number(out, certificate.serial);
-    put_number(out, certificate.expiry);
+impl Signed for Certificate<'_> {
+    ghost signed = { λ c. signed_certificate (certificate_of c) };
+
+    ghost signed_size = { λ c. 51 + length c.name.now };
+
+    ghost seal = { λ c. c.signature.bytes };
+
+    ghost Fits = { λ c. FitsCertificate (certificate_of c) };
+
+    ghost Wrong = { λ c. FitsCertificate (certificate_of c) → ⊥ };
+
+    ghost Ready = { λ c. length c.name.now ≤ 64 };
+
+    fn size(self) -> Option<usize> {
+        let length = self.name.len();
+        (length <= 64).then_some(115 + length)
+    }
+
+    #[tactic(auto, unfolding(wire_theory::specs::Messages::signed_certificate))]
+    fn put_signed(&self, out: &mut Vec<u8>) {
+        Kind::Certificate.put(out);
+        self.issuer.put(out);
+        (self.name.len() as u8).put(out);
+        self.name.put(out);
+        self.key.bytes.put(out);
+        self.serial.put(out);
+        self.expiry.put(out);
+    }
+
+    fn signature(&self) -> &Signature {
+        &self.signature
+    }
 }
 
-pub(crate) fn put_certificate(out: &mut Vec<u8>, certificate: &Certificate)
-    requires room { vec_len out.old + (115 + length certificate.now.name.now) ≤ vec_capacity out.old }
-    requires short { length certificate.now.name.now ≤ 64 }
-    ensures grows { Grows out.old out.new (certificate_bytes (certificate_of certificate.now)) }
-    ensures len { vec_len out.new ≡ vec_len out.old + (115 + length certificate.now.name.now) }
-{
-    put_signed_certificate(out, certificate);
-    put(out, &certificate.signature.bytes);
+impl Signed for Sct {
+    ghost signed = { λ p. signed_sct (sct_of p) };
+
+    ghost signed_size = { λ _. 42 };
+
+    ghost seal = { λ p. p.signature.bytes };
+
+    ghost Fits = { λ p. FitsSct (sct_of p) };
+
+    ghost Wrong = { λ p. FitsSct (sct_of p) → ⊥ };
+
+    fn size(self) -> Option<usize> {
+        Some(SCT_SIZE)
+    }
+
+    #[tactic(auto, unfolding(wire_theory::specs::Messages::signed_sct))]
+    fn put_signed(&self, out: &mut Vec<u8>) {
+        Kind::Sct.put(out);
+        self.log.put(out);
+        self.leaf.bytes.put(out);
+        self.at.put(out);
+    }
+
+    fn signature(&self) -> &Signature {
+        &self.signature
+    }
 }
 
-pub(crate) fn put_signed_sct(out: &mut Vec<u8>, sct: &Sct)
-    requires room { vec_len out.old + 42 ≤ vec_capacity out.old }
-    ensures grows { Grows out.old out.new (signed_sct (sct_of sct.now)) }
-    ensures len { vec_len out.new ≡ vec_len out.old + 42 }
-{
-    put(out, &[2, sct.log]);
-    put(out, &sct.leaf.bytes);
-    put_number(out, sct.at);
+impl Signed for TreeHead {
+    ghost signed = { λ h. signed_head (head_of h) };
+
+    ghost signed_size = { λ _. 50 };
+
+    ghost seal = { λ h. h.signature.bytes };
+
+    ghost Fits = { λ h. FitsHead (head_of h) };
+
+    ghost Wrong = { λ h. FitsHead (head_of h) → ⊥ };
+
+    fn size(self) -> Option<usize> {
+        (self.count <= 65536).then_some(114)
+    }
+
+    #[tactic(auto, unfolding(wire_theory::specs::Messages::signed_head))]
+    fn put_signed(&self, out: &mut Vec<u8>) {
+        Kind::TreeHead.put(out);
+        self.log.put(out);
+        self.at.put(out);
+        self.count.put(out);
+        self.root.bytes.put(out);
+    }
+
+    fn signature(&self) -> &Signature {
+        &self.signature
+    }
 }
 
-pub(crate) fn put_sct(out: &mut Vec<u8>, sct: &Sct)
-    requires room { vec_len out.old + 106 ≤ vec_capacity out.old }
-    ensures grows { Grows out.old out.new (sct_bytes (sct_of sct.now)) }
-    ensures len { vec_len out.new ≡ vec_len out.old + 106 }
-{
-    put_signed_sct(out, sct);
-    put(out, &sct.signature.bytes);
-}
+impl Signed for RevocationList<'_> {
+    ghost signed = { λ l. signed_list (list_of l) };
 
-pub(crate) fn put_signed_head(out: &mut Vec<u8>, head: &TreeHead)
-    requires room { vec_len out.old + 50 ≤ vec_capacity out.old }
-    ensures grows { Grows out.old out.new (signed_head (head_of head.now)) }
-    ensures len { vec_len out.new ≡ vec_len out.old + 50 }
-{
-    put(out, &[3, head.log]);
-    put_number(out, head.at);
-    put_number(out, head.count);
-    put(out, &head.root.bytes);
-}
+    ghost signed_size = { λ l. 12 + length l.serials.bytes.now };
 
-pub(crate) fn put_head(out: &mut Vec<u8>, head: &TreeHead)
-    requires room { vec_len out.old + 114 ≤ vec_capacity out.old }
-    ensures grows { Grows out.old out.new (head_bytes (head_of head.now)) }
-    ensures len { vec_len out.new ≡ vec_len out.old + 114 }
-{
-    put_signed_head(out, head);
-    put(out, &head.signature.bytes);
-}
+    ghost seal = { λ l. l.signature.bytes };
 
-pub(crate) fn put_signed_list(out: &mut Vec<u8>, list: &RevocationList)
-    requires room { vec_len out.old + (12 + length list.now.serials.bytes.now) ≤ vec_capacity out.old }
-    requires rising { RisingRow list.now.serials.bytes.now }
-    requires few { length list.now.serials.bytes.now ≤ 8192 }
-    ensures grows { Grows out.old out.new (signed_list (list_of list.now)) }
-    ensures len { vec_len out.new ≡ vec_len out.old + (12 + length list.now.serials.bytes.now) }
-{
-    let serials = list.serials.bytes;
-    put(out, &[4, list.authority]);
-    put_number(out, list.at);
-    put(out, &((serials.len() / 8) as u16).to_be_bytes());
-    put(out, serials);
-}
+    ghost Fits = { λ l. FitsList (list_of l) };
 
-pub(crate) fn put_list(out: &mut Vec<u8>, list: &RevocationList)
-    requires room { vec_len out.old + (76 + length list.now.serials.bytes.now) ≤ vec_capacity out.old }
-    requires rising { RisingRow list.now.serials.bytes.now }
-    requires few { length list.now.serials.bytes.now ≤ 8192 }
-    ensures grows { Grows out.old out.new (list_bytes (list_of list.now)) }
-    ensures len { vec_len out.new ≡ vec_len out.old + (76 + length list.now.serials.bytes.now) }
-{
-    put_signed_list(out, list);
-    put(out, &list.signature.bytes);
+    ghost Wrong = { λ l. Whole 8 l.serials.bytes.now → FitsList (list_of l) → ⊥ };
+
+    ghost Ready = { λ l. RisingRow l.serials.bytes.now × (length l.serials.bytes.now ≤ 8192) };
+
+    fn size(self) -> Option<usize> {
+        let length = self.serials.bytes.len();
+        if length > 8192 || !self.serials.are_rising() {
+            return None;
+        }
+        Some(76 + length)
+    }
+
+    fn put_signed(&self, out: &mut Vec<u8>) {
+        let serials = self.serials.bytes;
+        Kind::RevocationList.put(out);
+        self.authority.put(out);
+        self.at.put(out);
+        ((serials.len() / 8) as u16).to_be_bytes().put(out);
+        serials.put(out);
+    }
+
+    fn signature(&self) -> &Signature {
+        &self.signature
+    }
 }

@@ -1,6 +1,0 @@
-use Rattle.std.proofs.Common.{◌∙◌}
-use Rattle.wire_theory.proofs.Numbers.{eight_bytes_of}
-use Rattle.wire_write.proofs.put.write_number.Goals as goal
-
-pub returns : goal.returns
-returns c = c.copy_from_slice.ensures.after ∙ c.to_be_bytes.ensures ∙ eight_bytes_of c.args.n

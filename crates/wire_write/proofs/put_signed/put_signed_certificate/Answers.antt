@@ -1,8 +1,0 @@
-use Rattle.std.proofs.Common.{arith}
-use Rattle.wire_theory.specs.Messages.{signed_certificate}
-use Rattle.wire_write.proofs.Appended.{and_then}
-use Rattle.wire_write.proofs.put_signed.put_signed_certificate.Goals as goal
-
-pub returns : goal.returns
-unfolding signed_certificate
-returns c = record { grows = and_then c.put.ensures.grows (and_then c.put-2.ensures.grows (and_then c.put-3.ensures.grows (and_then c.put_number.ensures.grows c.put_number-2.ensures.grows))); len = omega arith }
