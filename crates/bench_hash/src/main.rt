@@ -4,11 +4,14 @@
 mod chains;
 mod steps;
 
+ghost use Rattle.std.specs.Prelude.{◌≡◌};
+ghost use Rattle.bench_hash.specs.declared.chains.Chains.{Chains};
+ghost use Rattle.bench_hash.specs.Steps.{stepped};
+
 use crate::chains::Chains;
 use anyhow::anyhow;
 use bench_tools::milliseconds_since;
-use merkle::Digest;
-use script::to_hex;
+use script::Hex;
 use sha256::Hasher;
 use std::env;
 use std::io::Read;
@@ -22,6 +25,7 @@ const PART: usize = 256 * 1024;
 fn measure_input(rt: &HostRuntime) -> anyhow::Result<()> {
     let mut part = vec![in rt.alloc(); 0u8; PART]?;
     let mut hasher = Hasher::new();
+    // Every loop has to end: this one has an end out of reach.
     for _ in 0..u64::MAX {
         let count = rt.stdin().read(&mut part)?;
         if count == 0 {
@@ -30,22 +34,25 @@ fn measure_input(rt: &HostRuntime) -> anyhow::Result<()> {
         hasher.update(&part[0..count]);
     }
     let bytes = hasher.finalize();
-    let digest = to_hex(rt.alloc(), &Digest { bytes })?;
-    println!(rt; "{digest}")?;
+    println!(rt; "{}", Hex(&bytes))?;
     Ok(())
 }
 
 // Makes at least `count` nodes, and prints how long one took.
-fn measure_nodes(rt: &HostRuntime, at_once: bool, count: u64) -> anyhow::Result<()> {
+fn measure_nodes<F: Fn(Chains) -> Chains>(
+    rt: &HostRuntime,
+    count: u64,
+    step: F,
+) -> anyhow::Result<()>
+    requires callable { F.IsAlwaysCallable step }
+    requires steps { (c r : Chains) → F.post step c r → r ≡ stepped c }
+{
     let steps = count.div_ceil(4);
     let start = Instant::now(rt)?;
-    let chains = if at_once {
-        Chains::START.after_at_once(steps)
-    } else {
-        Chains::START.after(steps)
-    };
+    let chains = Chains::START.after(steps, step);
     let ms = milliseconds_since(rt, &start)?;
-    let digest = to_hex(rt.alloc(), &chains.root())?;
+    let root = chains.root();
+    let digest = Hex(&root.bytes);
     let each = ms * 1_000_000.0 / (4.0 * nearest_u64_to_f64(steps));
     println!(rt; "digest {digest}\nns-node {each:.2}")?;
     Ok(())
@@ -57,12 +64,12 @@ fn self_check(rt: &HostRuntime) -> anyhow::Result<()> {
     hasher.update(b"a");
     hasher.update(b"bc");
     let bytes = hasher.finalize();
-    let abc = to_hex(rt.alloc(), &Digest { bytes })?;
-    let root = Chains::START.after(3).root();
-    if root != Chains::START.after_at_once(3).root() {
+    let abc = Hex(&bytes);
+    let root = Chains::START.after(3, Chains::step).root();
+    if root != Chains::START.after(3, Chains::step_at_once).root() {
         return Err(anyhow!("nodes one at a time and four at once differ"));
     }
-    let nodes = to_hex(rt.alloc(), &root)?;
+    let nodes = Hex(&root.bytes);
     println!(rt; "abc {abc} nodes {nodes}")?;
     Ok(())
 }
@@ -79,8 +86,8 @@ fn run(rt: &HostRuntime) -> anyhow::Result<()> {
     };
     match what.as_str() {
         "input" => measure_input(rt),
-        "nodes" => measure_nodes(rt, false, count),
-        "nodes4" => measure_nodes(rt, true, count),
+        "nodes" => measure_nodes(rt, count, Chains::step),
+        "nodes4" => measure_nodes(rt, count, Chains::step_at_once),
         _ => Err(anyhow!(
             "bench_hash takes: input, nodes N or nodes4 N; or nothing, for a check of itself"
         )),

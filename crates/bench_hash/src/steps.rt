@@ -13,7 +13,7 @@ impl Chains {
         d: Digest { bytes: [4; 32] },
     };
 
-    fn step(self) -> Chains
+    pub(crate) fn step(self) -> Chains
         ensures { result ≡ stepped self }
     {
         Chains {
@@ -24,7 +24,7 @@ impl Chains {
         }
     }
 
-    fn step_at_once(self) -> Chains
+    pub(crate) fn step_at_once(self) -> Chains
         ensures { result ≡ stepped self }
     {
         let [a, b, c, d] = node_digests(&[
@@ -33,22 +33,15 @@ impl Chains {
         Chains { a, b, c, d }
     }
 
-    pub(crate) fn after(self, steps: u64) -> Chains
+    // The chains after so many steps, each taken as `step` takes it.
+    pub(crate) fn after<F: Fn(Chains) -> Chains>(self, steps: u64, step: F) -> Chains
+        requires callable { F.IsAlwaysCallable step }
+        requires steps { (c r : Chains) → F.post step c r → r ≡ stepped c }
         ensures { result ≡ times steps self }
     {
         let mut chains = self;
         for _done in 0..steps {
-            chains = chains.step();
-        }
-        chains
-    }
-
-    pub(crate) fn after_at_once(self, steps: u64) -> Chains
-        ensures { result ≡ times steps self }
-    {
-        let mut chains = self;
-        for _done in 0..steps {
-            chains = chains.step_at_once();
+            chains = step(chains);
         }
         chains
     }

@@ -8,33 +8,23 @@ mod work;
 use crate::work::{consistency, earlier_states, grown, grown_at_once, inclusion};
 use anyhow::anyhow;
 use bench_tools::milliseconds_since;
-use merkle_tree::TreeError;
-use script::to_hex;
+use script::Hex;
 use std::env;
 use std::time::Instant;
 
 // How many proofs of each kind are made.
 const PROOFS: u64 = 10_000;
 
-// A tree's refusal in words.
-fn told<T>(res: Result<T, TreeError>) -> anyhow::Result<T> {
-    match res {
-        Ok(answer) => Ok(answer),
-        Err(TreeError::NotThere) => Err(anyhow!("the tree has too few leaves")),
-        Err(TreeError::NoMemory) => Err(anyhow!("no memory")),
-    }
-}
-
 // Prints what was done in lines of a name and a value; those that tell a time begin with ms.
 fn measure(rt: &HostRuntime, count: u64) -> anyhow::Result<()> {
     let heap = rt.alloc();
 
     let start = Instant::now(rt)?;
-    let tree = told(grown(heap, count))?;
+    let tree = grown(heap, count)?;
     let ms_grow = milliseconds_since(rt, &start)?;
 
     let start = Instant::now(rt)?;
-    let same = told(grown_at_once(heap, count))?;
+    let same = grown_at_once(heap, count)?;
     let ms_grow_at_once = milliseconds_since(rt, &start)?;
     let root = tree.root();
     if same.root() != root {
@@ -44,15 +34,15 @@ fn measure(rt: &HostRuntime, count: u64) -> anyhow::Result<()> {
     }
 
     let start = Instant::now(rt)?;
-    let paths = told(inclusion(&tree, PROOFS))?;
+    let paths = inclusion(&tree, PROOFS)?;
     let ms_inclusion = milliseconds_since(rt, &start)?;
 
-    let states = told(earlier_states(heap, &tree, PROOFS))?;
+    let states = earlier_states(heap, &tree, PROOFS)?;
     let start = Instant::now(rt)?;
-    let growths = told(consistency(&tree, states.as_slice()))?;
+    let growths = consistency(&tree, states.as_slice())?;
     let ms_consistency = milliseconds_since(rt, &start)?;
 
-    let root = to_hex(heap, &root)?;
+    let root = Hex(&root.bytes);
     println!(rt; "leaves {count}")?;
     println!(rt; "root {root}")?;
     println!(rt; "inclusion {paths}")?;
@@ -66,11 +56,12 @@ fn measure(rt: &HostRuntime, count: u64) -> anyhow::Result<()> {
 
 // What is measured, on little.
 fn self_check(rt: &HostRuntime) -> anyhow::Result<()> {
-    let tree = told(grown(rt.alloc(), 1000))?;
-    let root = to_hex(rt.alloc(), &tree.root())?;
-    let paths = told(inclusion(&tree, 100))?;
-    let states = told(earlier_states(rt.alloc(), &tree, 100))?;
-    let growths = told(consistency(&tree, states.as_slice()))?;
+    let tree = grown(rt.alloc(), 1000)?;
+    let root = tree.root();
+    let root = Hex(&root.bytes);
+    let paths = inclusion(&tree, 100)?;
+    let states = earlier_states(rt.alloc(), &tree, 100)?;
+    let growths = consistency(&tree, states.as_slice())?;
     println!(rt; "root {root} inclusion {paths} consistency {growths}")?;
     Ok(())
 }

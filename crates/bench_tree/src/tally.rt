@@ -1,7 +1,7 @@
 // What came of many proofs.
 use std::fmt;
 
-#[derive(Clone, Copy)]
+#[derive(Clone, Copy, Default)]
 pub(crate) struct Tally {
     // how many led to the roots that they should
     pub(crate) accepted: u64,
@@ -10,11 +10,6 @@ pub(crate) struct Tally {
 }
 
 impl Tally {
-    pub(crate) const NONE: Tally = Tally {
-        accepted: 0,
-        digests: 0,
-    };
-
     pub(crate) fn with(self, accepted: bool, digests: usize) -> Tally {
         Tally {
             accepted: self.accepted.saturating_add(u64::from(accepted)),

@@ -1,5 +1,5 @@
 // The work that is measured: growing a tree, and making and checking proofs.
-ghost use Rattle.std.specs.Prelude.{◌≡◌, MatchResult};
+ghost use Rattle.std.specs.Prelude.{◌≡◌, IfOk, MatchResult};
 ghost use Rattle.merkle_tree.specs.declared.error.TreeError.TheVariants.{NoMemory};
 ghost use Rattle.merkle_tree.specs.View.{leaves_of};
 ghost use Rattle.bench_tree.specs.Entries.{leaves_to};
@@ -9,7 +9,7 @@ use crate::tally::Tally;
 use bench_tools::Draws;
 use merkle::{Digest, consistency_leads, path_leads};
 use merkle_tree::{Tree, TreeError};
-use std::alloc::Global;
+use std::alloc::{AllocError, Global};
 
 // An earlier state of a tree.
 #[derive(Clone, Copy)]
@@ -23,6 +23,7 @@ pub(crate) fn grown(heap: Global, count: u64) -> Result<Tree, TreeError>
     ensures { MatchResult result (λ t. leaves_of t ≡ leaves_to count) (λ e. e ≡ NoMemory) }
 {
     let mut tree = Tree::new(heap);
+    // The number is what is entered.
     for place in 0..count {
         tree.push(leaf_at(place))?;
     }
@@ -30,14 +31,10 @@ pub(crate) fn grown(heap: Global, count: u64) -> Result<Tree, TreeError>
 }
 
 // The leaves of the first places.
-fn leaves(heap: Global, count: u64) -> Result<Vec<Digest>, TreeError>
-    ensures { MatchResult result (λ v. v.items ≡ leaves_to count) (λ e. e ≡ NoMemory) }
+fn leaves(heap: Global, count: u64) -> Result<Vec<Digest>, AllocError>
+    ensures { IfOk result (λ v. v.items ≡ leaves_to count) }
 {
-    let mut row = Vec::new(heap);
-    for place in 0..count {
-        row.push(leaf_at(place))?;
-    }
-    Ok(row)
+    (0..count).map(leaf_at).collect(heap)
 }
 
 // A tree that was given all its leaves at once.
@@ -55,7 +52,7 @@ pub(crate) fn inclusion(tree: &Tree, proofs: u64) -> Result<Tally, TreeError> {
     let count = tree.count();
     let root = tree.root();
     let mut draws = Draws::new();
-    let mut tally = Tally::NONE;
+    let mut tally = Tally::default();
     for _ in 0..proofs {
         let place = draws.below(count);
         let path = tree.inclusion(place, count)?;
@@ -85,7 +82,7 @@ pub(crate) fn earlier_states(
 pub(crate) fn consistency(tree: &Tree, states: &[Earlier]) -> Result<Tally, TreeError> {
     let count = tree.count();
     let root = tree.root();
-    let mut tally = Tally::NONE;
+    let mut tally = Tally::default();
     for state in states {
         let proof = tree.consistency(state.count, count)?;
         let led = consistency_leads(state.count, count, &state.root, &root, proof.as_slice());

@@ -2,14 +2,12 @@
 #![tactic(auto)]
 
 mod help;
-mod wording;
 
 use crate::help::HELP;
-use crate::wording::{answer_in_words, fault_in_words, refusal_in_words};
-use anyhow::anyhow;
+use anyhow::{Context, anyhow};
 use play::Harbour;
 use script::read_line;
-use show::{bytes_from_hex, message_in_words, refusal_in_words as message_refused};
+use show::{bytes_from_hex, message_in_words, refusal_in_words};
 use std::env;
 use std::io::{BufRead, BufReader};
 use wire::read;
@@ -21,34 +19,22 @@ fn play_line(
     number: u64,
     line: &[u8],
 ) -> anyhow::Result<()> {
-    let heap = rt.alloc();
-    match read_line(heap, line) {
+    match read_line(rt.alloc(), line) {
         Ok(None) => {}
         Ok(Some(command)) => match harbour.perform(&command) {
-            Ok(answer) => {
-                let text = answer_in_words(heap, &answer)?;
-                println!(rt; "{number}: {text}")?;
-            }
-            Err(refusal) => {
-                let text = refusal_in_words(refusal);
-                println!(rt; "{number}: {text}")?;
-            }
+            Ok(answer) => println!(rt; "{number}: {answer}")?,
+            Err(refusal) => println!(rt; "{number}: {refusal}")?,
         },
-        Err(fault) => {
-            let text = fault_in_words(heap, &fault)?;
-            println!(rt; "{number}: {text}")?;
-        }
+        Err(fault) => println!(rt; "{number}: {fault}")?,
     }
     Ok(())
 }
 
 fn play_script(rt: &HostRuntime) -> anyhow::Result<()> {
     let mut harbour = Harbour::new(rt.alloc());
-    let mut number: u64 = 0;
-    for line in BufReader::new(rt.alloc(), rt.stdin())?.split(rt.alloc(), b'\n') {
-        let line = line?;
-        number = number.saturating_add(1);
-        play_line(rt, &mut harbour, number, line.as_slice())?;
+    let lines = BufReader::new(rt.alloc(), rt.stdin())?.split(rt.alloc(), b'\n');
+    for (number, line) in (1..=u64::MAX).zip(lines) {
+        play_line(rt, &mut harbour, number, line?.as_slice())?;
     }
     Ok(())
 }
@@ -56,12 +42,12 @@ fn play_script(rt: &HostRuntime) -> anyhow::Result<()> {
 // Prints in words the message that the digits write, or why it is refused.
 fn show_message(rt: &HostRuntime, digits: &[u8]) -> anyhow::Result<()> {
     let heap = rt.alloc();
-    let Some(bytes) = bytes_from_hex(heap, digits)? else {
-        return Err(anyhow!("show takes a message in hexadecimal digits, two for each byte"));
-    };
+    let bytes = bytes_from_hex(heap, digits)?.context(
+        "show takes a message in hexadecimal digits, two for each byte",
+    )?;
     let text = match read(bytes.as_slice()) {
         Ok(message) => message_in_words(heap, &message)?,
-        Err(refusal) => message_refused(heap, refusal)?,
+        Err(refusal) => refusal_in_words(heap, refusal)?,
     };
     println!(rt; "{text}")?;
     Ok(())
@@ -78,10 +64,12 @@ fn run(rt: &HostRuntime) -> anyhow::Result<()> {
             rt.print(HELP)?;
             Ok(())
         }
-        "show" => match args.next() {
-            Some(digits) => show_message(rt, digits.as_bytes()),
-            None => Err(anyhow!("show takes a message in hexadecimal digits")),
-        },
+        "show" => {
+            let digits = args
+                .next()
+                .context("show takes a message in hexadecimal digits")?;
+            show_message(rt, digits.as_bytes())
+        }
         _ => Err(anyhow!("harbour takes a script on its standard input, show HEX, or --help")),
     }
 }

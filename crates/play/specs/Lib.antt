@@ -1,3 +1,4 @@
 pub mod Refusals
 pub mod Played
 pub mod Told
+pub mod Wording

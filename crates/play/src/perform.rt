@@ -41,6 +41,7 @@ impl Harbour {
         Ok(Answer::Top { count, root })
     }
 
+    // Like `proof` but for the names; one function over both would be longer.
     fn way(&self, place: u64, count: u64) -> Result<Answer, Refusal>
         ensures { Finds (LeafAmong place count (row_of self.now)) (Holds (Way place count) (path_of place (take count (row_of self.now)))) result }
     {
@@ -77,10 +78,7 @@ impl Harbour {
     fn goes_on(&self, from: u64, to: u64, proof: &[Digest]) -> Result<Answer, Refusal>
         ensures { Checks (GrowthAmong from to (row_of self.now)) (ConsistencyLeads node_of from to (root_of (take from (row_of self.now))) (root_of (take to (row_of self.now))) proof.now) (GoesOn from to) result }
     {
-        if from == 0 {
-            return Err(Refusal::NotThere);
-        }
-        if from > to {
+        if from == 0 || from > to {
             return Err(Refusal::NotThere);
         }
         let later = self.entries.root_at(to)?;
@@ -113,7 +111,7 @@ impl Harbour {
         }
     }
 
-    // Does what the command says; a refusal changes nothing.
+    // Does what the command says; a refusal changes nothing. What it tells besides is proved from what `carry_out` promises.
     pub fn perform(&mut self, command: &Command) -> Result<Answer, Refusal>
         ensures does { MatchResult result (λ a. Done command.now (row_of self.old) a (row_of self.new)) (λ e. Refuses command.now (row_of self.old) e × (row_of self.new ≡ row_of self.old)) }
         ensures tells { KeepsTexts command.now (row_of self.old) result (row_of self.new) }

@@ -1,5 +1,5 @@
 mod Decimals
-mod Hexes
+pub mod Hexes
 mod Cuts
 mod Spoken
 mod Faults

@@ -1,5 +1,5 @@
 -- What a line says, word by word, and what can be wrong with one. Assumes nothing.
-use Rattle.std.specs.Prelude.{◌≡◌, ℕ, ◌-◌, ◌<◌, Bool, false, cond, ◌||◌, ◌⊎◌, List, [], ◌∷◌, map, length, take, drop, Some, None, Ok, Err, vec_items, codes, Option, Result, ◌==◌, nat_le, slice_index_or}
+use Rattle.std.specs.Prelude.{MatchResult, ◌≡◌, ℕ, ◌-◌, ◌<◌, Bool, false, cond, ◌||◌, ◌⊎◌, List, [], ◌∷◌, map, length, take, drop, Some, None, Ok, Err, vec_items, codes, Option, Result, ◌==◌, nat_le, slice_index_or}
 use Rattle.std.specs.Borrow.{Bor}
 use Rattle.std.specs.Str.{bytes_eq}
 use Rattle.merkle.specs.declared.digest.Digest.{Digest}
@@ -92,6 +92,10 @@ BadNumber v w f = (x : Bor Word) × (f ≡ NotANumber x) × ((x.now ≡ v) ⊎ (
 -- one of the words is no digest, or there was no memory for them
 abbrev pub BadDigest : List Word → Fault → Type 0
 BadDigest ws f = ((x : Bor Word) × (f ≡ NotADigest x) × Stands ws x.now × NoHex x.now) ⊎ (f ≡ NoMemory)
+
+-- words say the command that is read of them, or what is wrong with them is so
+abbrev pub SaysOrWrong : List Word → Result Command Fault → Type 0
+SaysOrWrong ws r = MatchResult r (λ c. Says c ws) (Wrong ws)
 
 -- what a line with these words is read as
 abbrev pub Line : List Word → Result (Option Command) Fault → Type 0

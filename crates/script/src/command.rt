@@ -1,9 +1,14 @@
 // What a line of a script can say, and what can be wrong with one.
-ghost use Rattle.std.specs.Prelude.{◌≡◌};
-ghost use Rattle.script.specs.declared.command.Fault.TheVariants.{NoMemory};
+ghost use Rattle.std.specs.Prelude.{◌≡◌, Some, MatchResult};
+ghost use Rattle.script.specs.declared.command.Fault.TheVariants.{NoMemory, UnknownCommand};
+ghost use Rattle.script.specs.Grammar.{Stands, name, verbs};
+ghost use Rattle.script.specs.Wording.{fault_text};
 
+use crate::shown::Shown;
 use merkle::Digest;
 use std::alloc::{AllocError, AllocFailed};
+use std::error::Error;
+use std::fmt;
 
 // The first word of a command.
 #[derive(Clone, Copy)]
@@ -16,7 +21,25 @@ pub enum Verb {
     GoesOn,
 }
 
-// A command; texts are parts of the line.
+impl<'a> TryFrom<&'a [u8]> for Verb {
+    type Error = Fault<'a>;
+
+    ghost try_from_gives = { λ w r. MatchResult r (λ v. w.now ≡ name v) (λ f. (f ≡ UnknownCommand w) × (Stands verbs w.now → ⊥)) };
+
+    fn try_from(word: &'a [u8]) -> Result<Verb, Fault<'a>> {
+        match word {
+            b"enter" => Ok(Verb::Enter),
+            b"top" => Ok(Verb::Top),
+            b"way" => Ok(Verb::Way),
+            b"proof" => Ok(Verb::Proof),
+            b"leads" => Ok(Verb::Leads),
+            b"goes-on" => Ok(Verb::GoesOn),
+            _ => Err(Fault::UnknownCommand(word)),
+        }
+    }
+}
+
+// A command; texts are parts of the line. Two numbers stay side by side, each under the name that the script's help gives it.
 #[derive(Drop)]
 pub enum Command<'a> {
     Enter(&'a [u8]),
@@ -44,7 +67,7 @@ pub enum Command<'a> {
 }
 
 // What is wrong with a line; words are parts of it.
-#[derive(Drop)]
+#[derive(Debug, Drop)]
 pub enum Fault<'a> {
     UnknownCommand(&'a [u8]),
     // how the command is spoken
@@ -54,6 +77,35 @@ pub enum Fault<'a> {
     NoMemory,
 }
 
+impl fmt::Display for Fault<'_> {
+    ghost output = { λ x. Some (fault_text x) };
+
+    fn fmt<W: fmt::Write>(&self, f: &mut fmt::Formatter<W>) -> fmt::Result {
+        match self {
+            Fault::UnknownCommand(word) => {
+                let word = Shown::<b'!'>(word);
+                write!(f, "refused, 1: there is no command '{word}'")
+            }
+            Fault::Takes(usage) => write!(f, "refused, 1: it is spoken '{usage}'"),
+            Fault::NotANumber(word) => {
+                let word = Shown::<b'!'>(word);
+                write!(f, "refused, 1: '{word}' is no number below 2^64")
+            }
+            Fault::NotADigest(word) => {
+                let word = Shown::<b'!'>(word);
+                write!(
+                    f,
+                    "refused, 1: '{word}' is no digest of 64 hexadecimal digits"
+                )
+            }
+            Fault::NoMemory => f.write_str("there is no memory for this line"),
+        }
+    }
+}
+
+impl Error for Fault<'_> {}
+
+// By hand, so that a contract knows which error a `?` makes.
 impl<'a> From<AllocError> for Fault<'a> {
     ghost from_gives = { λ _ r. r ≡ NoMemory };
 

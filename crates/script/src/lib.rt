@@ -5,9 +5,11 @@ mod command;
 mod hex;
 mod number;
 mod read;
+mod shown;
 mod words;
 
 pub use command::{Command, Fault};
-pub use hex::{from_hex, hex_reads_back, push_hex, to_hex};
+pub use hex::{Hex, byte_from_hex, from_hex, hex_reads_back};
 pub use number::decimal;
 pub use read::{faults_are_faults, read_line};
+pub use shown::Shown;

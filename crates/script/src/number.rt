@@ -7,10 +7,8 @@ ghost use Rattle.script.specs.Texts.{Decimal, NoDecimal};
 fn with_digit(n: u64, b: u8) -> Option<u64>
     ensures { MatchOption result ((10 ≤ digit_value b) ⊎ (2 ^ 64 ≤ n * 10 + digit_value b)) (λ m. (digit_value b < 10) × (m ≡ n * 10 + digit_value b) × (m < 2 ^ 64)) }
 {
-    if b < b'0' || b > b'9' {
-        return None;
-    }
-    n.checked_mul(10)?.checked_add(u64::from(b - b'0'))
+    let digit = char::from(b).to_digit(10)?;
+    n.checked_mul(10)?.checked_add(u64::from(digit))
 }
 
 // The number that the word writes, if it is digits alone and fits 64 bits.

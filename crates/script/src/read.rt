@@ -1,6 +1,6 @@
 // Reads a line: its first word names the command, the others are what it takes.
-ghost use Rattle.std.specs.Prelude.{◌≡◌, ◌<◌, ◌∷◌, length, codes, Decides, MatchOption, MatchResult};
-ghost use Rattle.script.specs.Grammar.{FaultsAreFaults, Says, Wrong, Hexes, BadNumber, BadDigest, Line, Stands, name, texts, verbs};
+ghost use Rattle.std.specs.Prelude.{◌∷◌, codes, MatchResult};
+ghost use Rattle.script.specs.Grammar.{FaultsAreFaults, SaysOrWrong, Hexes, BadNumber, BadDigest, Line, texts};
 ghost use Rattle.script.specs.Texts.{Decimal};
 ghost use Rattle.script.specs.Words.{spoken, words};
 
@@ -15,12 +15,8 @@ use std::alloc::Global;
 fn numbers<'a>(first: &'a [u8], second: &'a [u8]) -> Result<(u64, u64), Fault<'a>>
     ensures { MatchResult result (λ p. Decimal first.now p.0 × Decimal second.now p.1) (BadNumber first.now second.now) }
 {
-    let Some(m) = decimal(first) else {
-        return Err(Fault::NotANumber(first));
-    };
-    let Some(n) = decimal(second) else {
-        return Err(Fault::NotANumber(second));
-    };
+    let m = decimal(first).ok_or(Fault::NotANumber(first))?;
+    let n = decimal(second).ok_or(Fault::NotANumber(second))?;
     Ok((m, n))
 }
 
@@ -30,118 +26,87 @@ fn digests<'a>(heap: Global, words: &[&'a [u8]]) -> Result<Vec<Digest>, Fault<'a
 {
     let mut read = Vec::new(heap);
     for word in words {
-        let Some(digest) = from_hex(word) else {
-            return Err(Fault::NotADigest(word));
-        };
+        let digest = from_hex(word).ok_or(Fault::NotADigest(word))?;
         read.push(digest)?;
     }
     Ok(read)
 }
 
 fn enter<'a>(args: &[&'a [u8]]) -> Result<Command<'a>, Fault<'a>>
-    ensures { MatchResult result (λ c. Says c (codes "enter" ∷ texts args.now)) (Wrong (codes "enter" ∷ texts args.now)) }
+    ensures { SaysOrWrong (codes "enter" ∷ texts args.now) result }
 {
-    if args.len() != 1 {
+    let [text] = args else {
         return Err(Fault::Takes("enter TEXT"));
-    }
-    Ok(Command::Enter(args[0]))
+    };
+    Ok(Command::Enter(text))
 }
 
 fn top<'a>(args: &[&'a [u8]]) -> Result<Command<'a>, Fault<'a>>
-    ensures { MatchResult result (λ c. Says c (codes "top" ∷ texts args.now)) (Wrong (codes "top" ∷ texts args.now)) }
+    ensures { SaysOrWrong (codes "top" ∷ texts args.now) result }
 {
-    if args.is_empty() {
-        return Ok(Command::Top);
+    match args {
+        [] => Ok(Command::Top),
+        [count] => {
+            let count = decimal(count).ok_or(Fault::NotANumber(count))?;
+            Ok(Command::TopOf(count))
+        }
+        _ => Err(Fault::Takes("top, or top COUNT")),
     }
-    if args.len() != 1 {
-        return Err(Fault::Takes("top, or top COUNT"));
-    }
-    let Some(n) = decimal(args[0]) else {
-        return Err(Fault::NotANumber(args[0]));
-    };
-    Ok(Command::TopOf(n))
 }
 
+// Like `proof` but for the names; one function over both would be longer.
 fn way<'a>(args: &[&'a [u8]]) -> Result<Command<'a>, Fault<'a>>
-    ensures { MatchResult result (λ c. Says c (codes "way" ∷ texts args.now)) (Wrong (codes "way" ∷ texts args.now)) }
+    ensures { SaysOrWrong (codes "way" ∷ texts args.now) result }
 {
-    if args.len() != 2 {
+    let [place, count] = args else {
         return Err(Fault::Takes("way PLACE COUNT"));
-    }
-    let (place, count) = numbers(args[0], args[1])?;
+    };
+    let (place, count) = numbers(place, count)?;
     Ok(Command::Way { place, count })
 }
 
 fn proof<'a>(args: &[&'a [u8]]) -> Result<Command<'a>, Fault<'a>>
-    ensures { MatchResult result (λ c. Says c (codes "proof" ∷ texts args.now)) (Wrong (codes "proof" ∷ texts args.now)) }
+    ensures { SaysOrWrong (codes "proof" ∷ texts args.now) result }
 {
-    if args.len() != 2 {
+    let [from, to] = args else {
         return Err(Fault::Takes("proof FROM TO"));
-    }
-    let (from, to) = numbers(args[0], args[1])?;
+    };
+    let (from, to) = numbers(from, to)?;
     Ok(Command::Proof { from, to })
 }
 
+// Like `goes_on` but for the names and the text.
 fn leads<'a>(heap: Global, args: &[&'a [u8]]) -> Result<Command<'a>, Fault<'a>>
-    ensures { MatchResult result (λ c. Says c (codes "leads" ∷ texts args.now)) (Wrong (codes "leads" ∷ texts args.now)) }
+    ensures { SaysOrWrong (codes "leads" ∷ texts args.now) result }
 {
-    if args.len() < 3 {
+    let [place, count, text, path @ ..] = args else {
         return Err(Fault::Takes("leads PLACE COUNT TEXT DIGEST.."));
-    }
-    let (place, count) = numbers(args[0], args[1])?;
-    let path = digests(heap, &args[3..])?;
+    };
+    let (place, count) = numbers(place, count)?;
+    let path = digests(heap, path)?;
     Ok(Command::Leads {
         place,
         count,
-        text: args[2],
+        text,
         path,
     })
 }
 
 fn goes_on<'a>(heap: Global, args: &[&'a [u8]]) -> Result<Command<'a>, Fault<'a>>
-    ensures { MatchResult result (λ c. Says c (codes "goes-on" ∷ texts args.now)) (Wrong (codes "goes-on" ∷ texts args.now)) }
+    ensures { SaysOrWrong (codes "goes-on" ∷ texts args.now) result }
 {
-    if args.len() < 2 {
+    let [from, to, proof @ ..] = args else {
         return Err(Fault::Takes("goes-on FROM TO DIGEST.."));
-    }
-    let (from, to) = numbers(args[0], args[1])?;
-    let proof = digests(heap, &args[2..])?;
+    };
+    let (from, to) = numbers(from, to)?;
+    let proof = digests(heap, proof)?;
     Ok(Command::GoesOn { from, to, proof })
 }
 
-fn is(word: &[u8], name: &[u8]) -> bool
-    ensures { Decides result (word.now ≡ name.now) }
-{
-    word == name
-}
-
-fn verb_of(word: &[u8]) -> Option<Verb>
-    ensures { MatchOption result (Stands verbs word.now → ⊥) (λ v. word.now ≡ name v) }
-{
-    if is(word, b"enter") {
-        Some(Verb::Enter)
-    } else if is(word, b"top") {
-        Some(Verb::Top)
-    } else if is(word, b"way") {
-        Some(Verb::Way)
-    } else if is(word, b"proof") {
-        Some(Verb::Proof)
-    } else if is(word, b"leads") {
-        Some(Verb::Leads)
-    } else if is(word, b"goes-on") {
-        Some(Verb::GoesOn)
-    } else {
-        None
-    }
-}
-
 fn command<'a>(heap: Global, word: &'a [u8], args: &[&'a [u8]]) -> Result<Command<'a>, Fault<'a>>
-    ensures { MatchResult result (λ c. Says c (word.now ∷ texts args.now)) (Wrong (word.now ∷ texts args.now)) }
+    ensures { SaysOrWrong (word.now ∷ texts args.now) result }
 {
-    let Some(verb) = verb_of(word) else {
-        return Err(Fault::UnknownCommand(word));
-    };
-    match verb {
+    match Verb::try_from(word)? {
         Verb::Enter => enter(args),
         Verb::Top => top(args),
         Verb::Way => way(args),
@@ -155,12 +120,10 @@ fn command<'a>(heap: Global, word: &'a [u8], args: &[&'a [u8]]) -> Result<Comman
 pub fn read_line<'a>(heap: Global, line: &'a [u8]) -> Result<Option<Command<'a>>, Fault<'a>>
     ensures { Line (words (spoken line.now)) result }
 {
-    let words = split_words(heap, line)?;
-    let words = words.as_slice();
-    if words.is_empty() {
-        return Ok(None);
+    match split_words(heap, line)?.as_slice() {
+        [] => Ok(None),
+        [word, args @ ..] => Ok(Some(command(heap, word, args)?)),
     }
-    Ok(Some(command(heap, words[0], &words[1..])?))
 }
 
 // A line that says a command is refused for want of memory alone.

@@ -1,5 +1,5 @@
 // A line cut into words; the words are parts of the line.
-ghost use Rattle.std.specs.Prelude.{◌≡◌, ℕ, ◌<◌, ◌≤◌, true, false, map, length, IfOk, ◌≢◌, slice_index};
+ghost use Rattle.std.specs.Prelude.{◌≡◌, map, IfOk};
 ghost use Rattle.script.specs.Words.{blank, spoken, words};
 
 use std::alloc::{AllocError, Global};
@@ -7,41 +7,14 @@ use std::alloc::{AllocError, Global};
 fn is_blank(b: u8) -> bool
     ensures { result ≡ blank b }
 {
-    b == b' ' || b == b'\t' || b == b'\r'
-}
-
-// How many bytes at the front are blank, or are not.
-fn run(line: &[u8], blanks: bool) -> usize
-    ensures within { result ≤ length line.now }
-    ensures all { (k : ℕ) → k < result → blank (slice_index line.now k) ≡ blanks }
-    ensures stops { result < length line.now → blank (slice_index line.now result) ≢ blanks }
-{
-    let mut n = 0;
-    while n < line.len() && is_blank(line[n]) == blanks {
-        n += 1;
-    }
-    n
+    matches!(b, b' ' | b'\t' | b'\r')
 }
 
 // The line up to its comment.
 fn without_comment(line: &[u8]) -> &[u8]
     ensures { result.now ≡ spoken line.now }
 {
-    for (i, b) in line.iter().enumerate() {
-        if *b == b'#' {
-            return &line[0..i];
-        }
-    }
-    line
-}
-
-// The line behind its first blanks.
-fn skip_blanks(line: &[u8]) -> &[u8]
-    ensures same { words result.now ≡ words line.now }
-    ensures first { 0 < length result.now → blank (slice_index result.now 0) ≡ false }
-    ensures shorter { length result.now ≤ length line.now }
-{
-    &line[run(line, true)..]
+    line.split(|b| *b == b'#').next().unwrap_or(line)
 }
 
 // The words of the line, in their order.
@@ -49,11 +22,11 @@ pub(crate) fn split_words<'a>(heap: Global, line: &'a [u8]) -> Result<Vec<&'a [u
     ensures { IfOk result (λ v. map (λ w. w.now) v.items ≡ words (spoken line.now)) }
 {
     let mut found = Vec::new(heap);
-    let mut rest = skip_blanks(without_comment(line));
-    while !rest.is_empty() {
-        let (word, after) = rest.split_at(run(rest, false));
+    for word in without_comment(line).split(|b| is_blank(*b)) {
+        if word.is_empty() {
+            continue;
+        }
         found.push(word)?;
-        rest = skip_blanks(after);
     }
     Ok(found)
 }

@@ -1,8 +1,9 @@
 -- Messages in words. Assumes nothing.
-use Rattle.std.specs.Prelude.{ℕ, cond, ◌&&◌, List, [], ◌∷◌, ◌++◌, length, Some, None, codes, decimal, Option, ◌==◌, nat_lt}
+use Rattle.std.specs.Prelude.{ℕ, cond, List, ◌∷◌, ◌++◌, length, Some, None, codes, decimal, Option, ◌==◌}
 use Rattle.std.specs.List.{flat_map}
 use Rattle.model.specs.Objects.{Certificate}
-use Rattle.script.specs.Texts.{byte_hex, hex_of}
+use Rattle.script.specs.Texts.{hex_of}
+use Rattle.script.specs.Texts as texts
 use Rattle.wire_theory.specs.Bytes.{Bytes}
 use Rattle.wire_theory.specs.Messages.{SignedSct, SignedHead, SignedList, MonitorAnswer, Message}
 use Rattle.wire_theory.specs.Messages.{certificate, sct, head, list, order, challenge, published, submit, get_head, get_inclusion, get_consistency, get_entries, revoke, get_list, bring, present}
@@ -17,7 +18,7 @@ Text = List ℕ
 
 -- a byte of a name: printable ASCII as it is, others as \xNN
 abbrev pub shown_byte : ℕ → Text
-shown_byte b = cond (nat_lt 31 b && nat_lt b 127) (b ∷ []) (codes "\\x" ++ byte_hex b)
+shown_byte b = texts.shown_byte 32 b
 
 -- a name between quotes, with its length
 abbrev pub name_text : Bytes → Text

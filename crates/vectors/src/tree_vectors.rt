@@ -1,7 +1,6 @@
 // The certificate transparency test data for Merkle trees: eight entries, the roots of the first 1 to 8, and some paths and
 // consistency proofs, here with the digest nearest to the root first.
 use crate::tally::Tally;
-use anyhow::anyhow;
 use merkle::{Digest, consistency_leads, leaf_digest, path_leads, root_of};
 use merkle_tree::Tree;
 use script::from_hex;
@@ -123,39 +122,26 @@ const CONSISTENCY_PROOFS: [Proof; 4] = [
 
 // Are these digests the published ones?
 fn are(digests: &[Digest], published: &[&str]) -> bool {
-    if digests.len() != published.len() {
-        return false;
-    }
-    for (digest, text) in digests.iter().zip(published.iter()) {
-        match from_hex(text.as_bytes()) {
-            Some(wanted) if wanted == *digest => {}
-            _ => return false,
-        }
-    }
-    true
+    digests.len() == published.len()
+        && digests.iter().zip(published).all(|(digest, text)| from_hex(text.as_bytes())
+            == Some(*digest))
 }
 
 fn grown(rt: &HostRuntime) -> anyhow::Result<Tree> {
     let mut tree = Tree::new(rt.alloc());
     for entry in ENTRIES.iter() {
-        if tree.push(leaf_digest(entry)).is_err() {
-            return Err(anyhow!("no memory"));
-        }
+        tree.push(leaf_digest(entry))?;
     }
     Ok(tree)
 }
 
-// The root of the first `count`, by the tree and by the row of their leaf digests.
+// The root of the first `count`, by the tree and by the row of their leaf digests. A tree that refuses is a vector that differs, here
+// and below, so there is no `?`.
 fn root_agrees(tree: &Tree, count: u64, published: &str) -> bool {
-    let leaves = tree.leaves();
-    if count > leaves.len() as u64 {
+    let (Some(row), Ok(root)) = (tree.leaves().get(..count as usize), tree.root_at(count)) else {
         return false;
-    }
-    let by_row = root_of(&leaves[0..count as usize]);
-    match tree.root_at(count) {
-        Ok(root) => root == by_row && are(&[root], &[published]),
-        Err(_) => false,
-    }
+    };
+    root == root_of(row) && are(&[root], &[published])
 }
 
 // The path that the tree makes is the published one, and leads to the root.
@@ -163,22 +149,19 @@ fn path_agrees(tree: &Tree, proof: &Proof) -> bool {
     let (Some(leaf), Ok(root)) = (tree.leaf(proof.first), tree.root_at(proof.count)) else {
         return false;
     };
-    match tree.inclusion(proof.first, proof.count) {
-        Ok(path) => are(&path, proof.digests)
-            && path_leads(proof.count, proof.first, &leaf, &path, &root),
-        Err(_) => false,
-    }
+    tree.inclusion(proof.first, proof.count).is_ok_and(|path| {
+        are(&path, proof.digests) && path_leads(proof.count, proof.first, &leaf, &path, &root)
+    })
 }
 
 fn consistency_agrees(tree: &Tree, proof: &Proof) -> bool {
     let (Ok(earlier), Ok(later)) = (tree.root_at(proof.first), tree.root_at(proof.count)) else {
         return false;
     };
-    match tree.consistency(proof.first, proof.count) {
-        Ok(made) => are(&made, proof.digests)
-            && consistency_leads(proof.first, proof.count, &earlier, &later, &made),
-        Err(_) => false,
-    }
+    tree.consistency(proof.first, proof.count).is_ok_and(|made| {
+        are(&made, proof.digests)
+            && consistency_leads(proof.first, proof.count, &earlier, &later, &made)
+    })
 }
 
 pub(crate) fn run_tree_vectors(rt: &HostRuntime, tally: &mut Tally) -> anyhow::Result<()> {

@@ -1,16 +1,8 @@
-use Rattle.std.proofs.Common.{◌∷◌, codes, refl, ap, arith}
-use Rattle.script.proofs.Spoken.{just_two_words, bad_number, not_just, handed_on}
+use Rattle.std.proofs.Common.{refl, arith}
+use Rattle.script.proofs.Spoken.{bad_number, handed_on}
 use Rattle.script.proofs.read.way.Goals as goal
-
-pub returns-then-args-ne2 : goal.returns-then-args-ne2
-returns-then-args-ne2 c = (refl, not_just c.args.args.now 2 c.if-args-ne2.true)
 
 pub returns-in_err-place : goal.returns-in_err-place
 returns-in_err-place c =
     handed_on _ _ c.from_residual.result c.in_err-place.field-0.0 c.from_residual.ensures.1
     (bad_number _ c.args.args.now _ _ (λ _. refl) (omega arith) c.in_err-place.ensures)
-
-pub returns : goal.returns
-returns c =
-    let read = c.in_ok-place.ensures in
-    (_, _, ap (λ ws. codes "way" ∷ ws) (just_two_words c.args.args.now _ c.if-args-ne2.false), read.0, read.1)

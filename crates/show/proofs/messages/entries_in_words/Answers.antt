@@ -1,4 +1,4 @@
-use Rattle.std.proofs.Common.{◌++◌, string_bytes, sym, ap, ◌∙◌, append-nil, arith}
+use Rattle.std.proofs.Common.{◌++◌, string_bytes, sym, ap, ◌∙◌, append-nil}
 use Rattle.wire_theory.proofs.Follows.{fewer_behind, first_of_all, none_left}
 use Rattle.wire.specs.Views.{certificate_of, certificates_of}
 use Rattle.show.specs.Words.{listed_certificates}
@@ -16,7 +16,7 @@ loop-first-preserved c =
     λ all. let h = c.in-Some.ensures in
     let before = c.loop-first.invariant all in
     let step = first_of_all _ _ _ h.1 h.0 before.0 in
-    (step.0, one_line_more _ _ (certificate_of c.in-Some.first) _ _ _ _ _ _ step.1 before.1 c.in_ok-push.ensures.bytes (c.push.ensures.ascii (omega arith)) c.in_ok-push_str.ensures.bytes (c.as_str.ensures.value ∙ c.in_ok-words.ensures))
+    (step.0, one_line_more _ _ (certificate_of c.in-Some.first) _ _ _ step.1 before.1 c.in_ok-write.ensures.bytes)
 
 pub returns : goal.returns
 returns c =
