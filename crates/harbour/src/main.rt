@@ -23,7 +23,7 @@ fn play_line(
         Ok(None) => {}
         Ok(Some(command)) => match harbour.perform(&command) {
             Ok(answer) => println!(rt; "{number}: {answer}")?,
-            Err(refusal) => println!(rt; "{number}: {refusal}")?,
+            Err(refusal) => println!(rt; "{number}: {}", refusal.in_words())?,
         },
         Err(fault) => println!(rt; "{number}: {fault}")?,
     }

@@ -101,17 +101,24 @@ impl Refusal {
             Refusal::NoMemory => None,
         }
     }
+
+    // The refusal in words, which are constants, since there may be no memory for others: `Display` may fail, this can't.
+    pub fn in_words(&self) -> &'static str
+        ensures { result.now ≡ refusal_text self.now }
+    {
+        match self {
+            Refusal::NotThere => "refused, 2: a place or a count that isn't there",
+            Refusal::Elsewhere => "refused, 6: a way or a proof that leads elsewhere",
+            Refusal::NoMemory => "there is no memory for this command",
+        }
+    }
 }
 
 impl fmt::Display for Refusal {
     ghost output = { λ r. Some (refusal_text r) };
 
     fn fmt<W: fmt::Write>(&self, f: &mut fmt::Formatter<W>) -> fmt::Result {
-        f.write_str(match self {
-            Refusal::NotThere => "refused, 2: a place or a count that isn't there",
-            Refusal::Elsewhere => "refused, 6: a way or a proof that leads elsewhere",
-            Refusal::NoMemory => "there is no memory for this command",
-        })
+        f.write_str(self.in_words())
     }
 }
 
