@@ -1,5 +1,5 @@
--- How a line is cut at its comment and at blanks. Assumes nothing.
-use Rattle.std.proofs.Common.{◌≡◌, ℕ, suc, ◌<◌, Bool, true, false, eqb, List, [], ◌∷◌, ◌++◌, map, length, get_or, sym, refl, ap, ◌∙◌, subst, append_assoc, arith, Bor, MatchBool}
+-- How a line is cut at its comment, behind blanks and behind a word. Assumes nothing.
+use Rattle.std.proofs.Common.{◌≡◌, ℕ, zero, suc, ◌<◌, ◌≤◌, Bool, true, false, eqb, List, [], ◌∷◌, ◌++◌, map, length, get_or, take, drop, sym, refl, ap, ◌∙◌, subst, append_assoc, add-zero, arith, length-drop, get_or-drop, Bor, MatchBool}
 use Rattle.std.specs.List.{IsFirstMatchOrLen}
 use Rattle.std.proofs.lemmas.Bool.{cond-true, cond-false}
 use Rattle.std.proofs.lemmas.List.{map_push, get_or_append_left, get_or_at, length-append}
@@ -43,53 +43,59 @@ spoken_cut (b ∷ x) t y none at = cond-false _ _ _ (none 0 (omega arith)) ∙ a
 pub spoken_split : (x : List ℕ) (done : Bool) (t s : List ℕ) → SplitOff (λ b. eqb b 35) s x done t → spoken s ≡ x
 spoken_split x done t = split_off (λ b. eqb b 35) (λ s. spoken s ≡ x) x done t (λ none d. spoken_whole x none) (λ y none d at. spoken_cut x t y none at)
 
--- the words of what a split has still to give
-abbrev pub words_left : Bool → List ℕ → List (List ℕ)
-words_left true rest = []
-words_left false rest = words rest
-
--- a part that was split off is a word, unless it is empty
-abbrev pub with_part : List ℕ → List (List ℕ) → List (List ℕ)
-with_part [] ws = ws
-with_part (b ∷ x) ws = (b ∷ x) ∷ ws
-
-is_part : (x : List ℕ) (ws : List (List ℕ)) → 0 < length x → with_part x ws ≡ x ∷ ws
-is_part [] ws some = absurd (omega arith)
-is_part (b ∷ x) ws some = refl
-
-pub is_no_part : (x : List ℕ) (ws : List (List ℕ)) → length x ≡ 0 → with_part x ws ≡ ws
-is_no_part [] ws none = refl
-is_no_part (b ∷ x) ws none = absurd (omega arith)
-
-words_whole : (x : List ℕ) → Passes blank x → words x ≡ with_part x []
+pub words_behind_blanks : (s : List ℕ) (n : ℕ) → ((k : ℕ) → k < n → blank (get_or s k 0) ≡ true) → words s ≡ words (drop n s)
 unfolding words
-words_whole [] none = refl
-words_whole (b ∷ []) none = cond-false _ _ _ (none 0 (omega arith))
-words_whole (b ∷ (d ∷ x)) none =
-    cond-false _ _ _ (none 0 (omega arith)) ∙ cond-false _ _ _ (none 1 (omega arith)) ∙ ap (longer b) (words_whole (d ∷ x) (behind blank b (d ∷ x) none))
+words_behind_blanks s zero all = refl
+words_behind_blanks [] (suc n) all = refl
+words_behind_blanks (b ∷ s) (suc n) all = cond-true _ _ _ (all 0 (omega arith)) ∙ words_behind_blanks s n (λ k l. all (suc k) (omega arith))
 
-words_cut : (x t : List ℕ) (y : ℕ) → Passes blank x → blank y ≡ true → words (x ++ (y ∷ t)) ≡ with_part x (words t)
+-- a byte that is no blank, before one that is none, belongs to the word behind it
+word_on : (b d : ℕ) (s : List ℕ) → blank b ≡ false → blank d ≡ false → words (b ∷ (d ∷ s)) ≡ longer b (words (d ∷ s))
 unfolding words
-words_cut [] t y none at = cond-true _ _ _ at
-words_cut (b ∷ []) t y none at = cond-false _ _ _ (none 0 (omega arith)) ∙ cond-true _ _ _ at ∙ ap (λ ws. (b ∷ []) ∷ ws) (cond-true _ _ _ at)
-words_cut (b ∷ (d ∷ x)) t y none at =
-    cond-false _ _ _ (none 0 (omega arith)) ∙ cond-false _ _ _ (none 1 (omega arith)) ∙ ap (longer b) (words_cut (d ∷ x) t y (behind blank b (d ∷ x) none) at)
+word_on b d s h k = cond-false _ _ _ h ∙ cond-false _ _ _ k
 
-words_of_split : (x : List ℕ) (done : Bool) (t s : List ℕ) → SplitOff blank s x done t → words s ≡ with_part x (words_left done t)
-words_of_split x done t = split_off blank (λ s. words s ≡ with_part x (words_left done t)) x done t
-    (λ none d. rw d (words_whole x none))
-    (λ y none d at. rw d (words_cut x t y none at))
+-- a first word of at least one byte
+pub words_from_word : (s : List ℕ) (n : ℕ) → suc n ≤ length s → ((k : ℕ) → k < suc n → blank (get_or s k 0) ≡ false) →
+    (suc n < length s → blank (get_or s (suc n) 0) ≡ true) → words s ≡ take (suc n) s ∷ words (drop (suc n) s)
+unfolding words
+words_from_word [] n within all stops = absurd (omega arith)
+words_from_word (b ∷ []) zero within all stops = cond-false _ _ _ (all 0 (omega arith))
+words_from_word (b ∷ (d ∷ s)) zero within all stops = cond-false _ _ _ (all 0 (omega arith)) ∙ cond-true _ _ _ (stops (omega arith))
+words_from_word (b ∷ []) (suc n) within all stops = absurd (omega arith)
+words_from_word (b ∷ (d ∷ s)) (suc n) within all stops =
+    word_on b d s (all 0 (omega arith)) (all 1 (omega arith)) ∙
+    ap (longer b) (words_from_word (d ∷ s) n (omega arith) (λ k l. all (suc k) (omega arith)) (λ l. stops (omega arith)))
 
--- the part and what is left are what was left before
-pub words_split : (x : List ℕ) (was done : Bool) (t s : List ℕ) → was ≡ false → SplitOff blank s x done t → words_left was s ≡ with_part x (words_left done t)
-words_split x was done t s e split = ap (λ w. words_left w s) e ∙ words_of_split x done t s split
+is_false : (b : Bool) → (b ≡ true → ⊥) → b ≡ false
+is_false true h = absurd (h refl)
+is_false false h = refl
 
--- the words found, and those that are left, behind a part that is a word
-pub one_word_more : (found more : List (Bor (List ℕ))) (w : Bor (List ℕ)) (ws left all : List (List ℕ)) → 0 < length w.now → more ≡ found ++ (w ∷ []) →
-    ws ≡ with_part w.now left → map (λ v. v.now) found ++ ws ≡ all → map (λ v. v.now) more ++ left ≡ all
-one_word_more found more w ws left all some pushed split whole =
-    ap (λ vs. map (λ v. v.now) vs ++ left) pushed ∙
-    ap (λ ts. ts ++ left) (map_push (λ v. v.now) found w) ∙
-    append_assoc (map (λ v. v.now) found) (w.now ∷ []) left ∙
-    ap (λ ts. map (λ v. v.now) found ++ ts) (sym (split ∙ is_part w.now left some)) ∙
-    whole
+is_true : (b : Bool) → (b ≡ false → ⊥) → b ≡ true
+is_true true h = refl
+is_true false h = absurd (h refl)
+
+-- what is left behind all blanks at the front
+pub behind_blanks : (s : List ℕ) (n : ℕ) → n ≤ length s → ((k : ℕ) → k < n → blank (get_or s k 0) ≡ true) → (n < length s → blank (get_or s n 0) ≡ true → ⊥) →
+    (words (drop n s) ≡ words s) × (0 < length (drop n s) → blank (get_or (drop n s) 0 0) ≡ false) × (length (drop n s) ≤ length s)
+behind_blanks s n within all stops = (
+  sym (words_behind_blanks s n all),
+  λ some. rw (get_or-drop n s 0 0, add-zero) (is_false _ (stops (omega (arith, length-drop n s)))),
+  omega (arith, length-drop n s),
+)
+
+-- the first word of a line that begins with no blank
+pub first_word : (s : List ℕ) (n : ℕ) → 0 < length s → blank (get_or s 0 0) ≡ false → n ≤ length s → ((k : ℕ) → k < n → blank (get_or s k 0) ≡ false) →
+    (n < length s → blank (get_or s n 0) ≡ false → ⊥) → (0 < n) × (words s ≡ take n s ∷ words (drop n s))
+first_word s zero some first within all stops = absurd (stops some first)
+first_word s (suc n) some first within all stops = (omega arith, words_from_word s n within all (λ l. is_true _ (stops l)))
+
+abbrev texts : List (Bor (List ℕ)) → List (List ℕ)
+texts ws = map (λ w. w.now) ws
+
+pub one_word_more : (found more : List (Bor (List ℕ))) (w : Bor (List ℕ)) (s after next : List ℕ) (all : List (List ℕ)) (n : ℕ) →
+    more ≡ found ++ (w ∷ []) → w.now ≡ take n s → after ≡ drop n s → words next ≡ words after → words s ≡ take n s ∷ words (drop n s) →
+    texts found ++ words s ≡ all → texts more ++ words next ≡ all
+one_word_more found more w s after next all n pushed front back skipped cut whole =
+    let last = ap texts pushed ∙ map_push (λ w. w.now) found w in
+    let rest : words next ≡ words (drop n s) = skipped ∙ ap words back in
+    (λ i. last i ++ rest i) ∙ append_assoc (texts found) (w.now ∷ []) (words (drop n s)) ∙ ap (λ t. texts found ++ (t ∷ words (drop n s))) front ∙ ap (λ t. texts found ++ t) (sym cut) ∙ whole

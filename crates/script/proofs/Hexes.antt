@@ -1,11 +1,12 @@
 -- Digests read from their digits and written, one byte more at a time. Assumes nothing.
-use Rattle.std.proofs.Common.{◌≡◌, ℕ, false, zero, suc, ◌+◌, ◌-◌, ◌*◌, ◌/◌, ◌%◌, ◌^◌, ◌<◌, ◌≢◌, List, [], ◌∷◌, ◌++◌, length, get_or, take, drop, set, ◌≤◌, ◌⊎◌, ◌&&◌, leb, ltb, inl, inr, codes, le-leb, le-ltb, sym, refl, ap, ◌∙◌, arith, get_or-set_other, get_or-set_same, below_more}
-use Rattle.std.specs.Char.{digit_value}
+use Rattle.std.proofs.Common.{◌≡◌, ℕ, false, zero, suc, ◌+◌, ◌-◌, ◌*◌, ◌/◌, ◌%◌, ◌^◌, ◌<◌, ◌≢◌, List, [], ◌∷◌, ◌++◌, length, get_or, take, drop, set, ◌≤◌, ◌⊎◌, ◌&&◌, leb, ltb, inl, inr, codes, le-leb, le-ltb, sym, refl, ap, ◌∙◌, append_assoc, arith, get_or-set_other, get_or-set_same, below_more}
+use Rattle.std.specs.Char.{digit_value, encode_utf8}
 use Rattle.std.specs.Fmt.{digits, format_spec, padded_integral}
 use Rattle.std.specs.Simd.{first_chunks}
 use borrow.Author.Tests.{lt-leb}
 use Rattle.std.proofs.lemmas.Bool.{cond-false}
 use Rattle.std.proofs.lemmas.Fmt.{hex_byte}
+use Rattle.std.proofs.lemmas.Str.{encode_ascii}
 use Rattle.std.proofs.lemmas.List.{flat_map_more, take_more, get_or-take, get_or-drop}
 use Rattle.std.proofs.lemmas.Bool.Decides.{nat_tests}
 use Rattle.script.specs.Texts.{Pair, NoPair, HexReadsBack, byte_hex, digit_of, hex_of, shown_byte}
@@ -48,10 +49,20 @@ pair_more word bytes pair i b l below at read =
     record { high = old.high; low = old.low; byte = rw get_or-set_other old.byte })
     (pair_written word pair (set bytes i b) i b at read (rw get_or-set_same refl))
 
--- one byte more, printed by `{:02x}`
-pub hex_more : (bs : List ℕ) (i : ℕ) → i < length bs → get_or bs i 0 < 256 →
-    hex_of (take i bs) ++ padded_integral (format_spec 32 0 4 2 (2 ^ 64 - 1)) false [] (digits 16 false (get_or bs i 0)) ≡ hex_of (take (i + 1) bs)
-hex_more bs i within small = ap (λ t. hex_of (take i bs) ++ t) (hex_byte false _ small) ∙ flat_map_more byte_hex [] (take i bs) (get_or bs i 0) ∙ ap hex_of (sym (take_more bs i 0 within))
+digit_small : (n : ℕ) → n < 16 → digit_of n < 128
+digit_small n h = grind (arith, nat_tests)
+
+-- one byte more, written by its two digits
+pub hex_more : (bs : List ℕ) (i high low : ℕ) → i < length bs → get_or bs i 0 < 256 → high ≡ digit_of (get_or bs i 0 / 16) → low ≡ digit_of (get_or bs i 0 % 16) →
+    (hex_of (take i bs) ++ encode_utf8 high) ++ encode_utf8 low ≡ hex_of (take (i + 1) bs)
+hex_more bs i high low within small h l =
+    let b = get_or bs i 0 in
+    let first : encode_utf8 high ≡ digit_of (b / 16) ∷ [] = ap encode_utf8 h ∙ encode_ascii (digit_of (b / 16)) (digit_small (b / 16) (omega (arith, small))) in
+    let second : encode_utf8 low ≡ digit_of (b % 16) ∷ [] = ap encode_utf8 l ∙ encode_ascii (digit_of (b % 16)) (digit_small (b % 16) (omega arith)) in
+    append_assoc (hex_of (take i bs)) (encode_utf8 high) (encode_utf8 low) ∙
+    (λ j. hex_of (take i bs) ++ (first j ++ second j)) ∙
+    flat_map_more byte_hex [] (take i bs) b ∙
+    ap hex_of (sym (take_more bs i 0 within))
 
 pub shown_escaped : (least b : ℕ) → ((least ≤ b) × (127 ≤ b)) ⊎ (b < least) → b < 256 →
     codes "\\x" ++ padded_integral (format_spec 32 0 4 2 (2 ^ 64 - 1)) false [] (digits 16 false b) ≡ shown_byte least b

@@ -2,7 +2,7 @@
 ghost use Rattle.std.specs.Prelude.{◌≡◌, ◌<◌, ◌≤◌, [], ◌∷◌, Some, MatchOption};
 ghost use Rattle.std.specs.Char.{digit_value};
 ghost use Rattle.script.specs.Texts as texts;
-ghost use Rattle.script.specs.Texts.{HexReadsBack, NoHex, NoPair, Pair, hex_of};
+ghost use Rattle.script.specs.Texts.{HexReadsBack, NoHex, NoPair, Pair, digit_of, hex_of};
 
 use merkle::Digest;
 use std::fmt;
@@ -15,18 +15,38 @@ impl fmt::Display for Hex<'_> {
     ghost output = { λ h. Some (hex_of h.0.now) };
 
     fn fmt<W: fmt::Write>(&self, f: &mut fmt::Formatter<W>) -> fmt::Result {
+        // Digit by digit: a format for each byte takes longer.
         for &b in self.0 {
-            write!(f, "{b:02x}")?;
+            f.write_char(digit_char(b / 16))?;
+            f.write_char(digit_char(b % 16))?;
         }
         Ok(())
+    }
+}
+
+// The lower-case digit of a number below 16.
+fn digit_char(n: u8) -> char
+    requires { n < 16 }
+    ensures value { result ≡ digit_of n }
+    ensures ascii { result < 128 }
+{
+    if n < 10 {
+        (b'0' + n) as char
+    } else {
+        (b'a' - 10 + n) as char
     }
 }
 
 fn digit(b: u8) -> Option<u8>
     ensures { MatchOption result (16 ≤ digit_value b) (λ v. (v ≡ digit_value b) × (v < 16)) }
 {
-    let value = char::from(b).to_digit(16)?;
-    Some(value as u8)
+    // By ranges: `to_digit` takes longer, twice for each byte.
+    match b {
+        b'0'..=b'9' => Some(b - b'0'),
+        b'a'..=b'f' => Some(b - b'a' + 10),
+        b'A'..=b'F' => Some(b - b'A' + 10),
+        _ => None,
+    }
 }
 
 // The byte that two hexadecimal digits write.

@@ -1,9 +1,10 @@
-use Rattle.std.proofs.Common.{◌≡◌, ◌++◌, map, vec_items}
-use Rattle.std.specs.Slice.Iter.{split_done, split_rest}
-use Rattle.script.specs.Words.{spoken, words}
-use Rattle.script.proofs.Cuts.{words_left}
+use Rattle.std.proofs.Common.{◌≡◌, ◌<◌, false, ◌++◌, map, length, get_or, vec_items}
+use Rattle.script.specs.Words.{blank, spoken, words}
 use Rattle.script.proofs.words.split_words.Given as goal
 
-abbrev pub invariant-loop-word : goal.invariant-loop-word
-invariant-loop-word l =
-    map (λ w. w.now) (vec_items l.found) ++ words_left (split_done l.word-iterator) (split_rest l.word-iterator) ≡ words (spoken l.line)
+abbrev pub invariant-loop-rest : goal.invariant-loop-rest
+invariant-loop-rest l =
+    (map (λ w. w.now) (vec_items l.found) ++ words l.rest ≡ words (spoken l.line)) × (0 < length l.rest → blank (get_or l.rest 0 0) ≡ false)
+
+abbrev pub decreases-loop-rest : goal.decreases-loop-rest
+decreases-loop-rest l = length l.rest
