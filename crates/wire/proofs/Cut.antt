@@ -1,5 +1,5 @@
 -- Bytes cut into pieces as the library cuts them. Assumes nothing.
-use Rattle.std.proofs.Common.{◌≡◌, Bool, true, false, ℕ, zero, suc, ◌+◌, ◌*◌, ◌/◌, ◌%◌, ◌<◌, ◌≤◌, ltb, List, [], ◌∷◌, ◌++◌, Ok, Err, Result, MatchBool, map, length, get_or, take, drop, sym, refl, ap, ◌∙◌, append-nil, arith, length-drop}
+use Rattle.std.proofs.Common.{◌≡◌, Bool, true, false, ℕ, zero, suc, ◌+◌, ◌*◌, ◌/◌, ◌%◌, ◌<◌, ltb, List, [], ◌∷◌, ◌++◌, MatchBool, length, get_or, take, drop, sym, refl, ap, ◌∙◌, append-nil, arith, length-drop}
 use Rattle.std.specs.Bool.{IsTrue, OnTrue}
 use Rattle.std.specs.Iterator.{Yields, YieldsFirst}
 use Rattle.std.specs.Iterator.Order.{IsSortedAnswer}
@@ -9,19 +9,13 @@ use Rattle.wire.specs.declared.parts.EachSerial.{EachSerial}
 use Rattle.wire.specs.Sound.{Whole}
 use Rattle.wire.specs.Views.{serials_left}
 use native.Mathlib.Decide.{dec_lt}
-use Rattle.wire_theory.proofs.Rows.{rising_below}
-use Rattle.std.proofs.lemmas.Bool.Decides.{nat_tests}
-use Rattle.std.specs.Result.{is_ok}
-use Rattle.std.specs.Ordering.{nat_cmp}
-use Rattle.std.specs.List.Sorted.{IsBinarySearchResult, IsSearchInRange}
-use Rattle.std.proofs.lemmas.List.{get_or_past, get_or-drop, get_or-map, get_or-take, get_or_append_left, length-append, length-map, length-take-le}
-use Rattle.std.proofs.lemmas.List.Sorted.{searched}
+use Rattle.std.proofs.lemmas.List.{get_or_past, get_or-drop, get_or-take, get_or_append_left, length-append, length-take-le}
 use Rattle.wire_theory.specs.Messages.{Rising}
-use Rattle.wire.specs.Reading.{Member, RisingNumbers, RisingRow}
+use Rattle.wire.specs.Reading.{RisingNumbers, RisingRow}
 use Rattle.std.specs.Int.{from_be_bytes, w16, w32, w64}
 use Rattle.std.proofs.lemmas.Nat.{be_bytes_2, be_bytes_4, be_bytes_8}
 use Rattle.std.specs.Simd.{first_chunks}
-use Rattle.wire_theory.specs.Bytes.{Bytes, big, number, numbers, part, pieces, row_of}
+use Rattle.wire_theory.specs.Bytes.{Bytes, big, numbers, part, pieces}
 use Rattle.wire_theory.proofs.Numbers.{Small, big_number, number_below, eight_bytes_of, four_bytes_of, two_bytes_of}
 
 pub chunks_are_pieces : (w n : ℕ) (s : Bytes) → first_chunks w n s ≡ pieces w n s
@@ -38,36 +32,6 @@ four_written bs n long small e = sym (four_bytes_of n) ∙ be_bytes_4 bs n long 
 
 pub two_written : (bs : Bytes) (n : ℕ) → length bs ≡ 2 → ((i : ℕ) → get_or bs i 0 < 256) → n ≡ from_be_bytes w16 bs → big 2 n ≡ bs
 two_written bs n long small e = sym (two_bytes_of n) ∙ be_bytes_2 bs n long small e
-
-rising_up : (xs : List ℕ) → Rising xs → (j k : ℕ) → j ≤ k → k < length xs → get_or xs j 0 ≤ get_or xs k 0
-rising_up xs rising j k l m =
-    elim (dec_lt j k) [ yes h ↦ omega (arith, rising_below xs rising j k h m) | no h ↦ let same : j ≡ k = omega arith in omega (arith, ap (λ i. get_or xs i 0) same) ]
-
--- what a search by their numbers found among pieces
-module _ (ps : List Bytes) (n : ℕ) where
-  at : (k d : ℕ) → k < length ps → get_or (map number ps) k d ≡ number (get_or ps k [])
-  at k d l = get_or-map number ps k [] d l
-
-  searched_numbers : (r : Result ℕ ℕ) → IsSearchInRange r (length ps) → IsBinarySearchResult (λ p. nat_cmp (number p) n) ps r → IsBinarySearchResult (λ m. nat_cmp m n) (map number ps) r
-  searched_numbers (Ok i) below found = λ d. rw (at i d below) (found [])
-  searched_numbers (Err i) below apart = λ rises.
-      let order = apart (λ j k d l m. rw (sym (get_or-map number ps j d (number d) (omega (arith, l, m))), sym (get_or-map number ps k d (number d) m)) (rises j k (number d) l (omega (arith, m, length-map ps number)))) in
-      (λ k d l m. rw (at k d (omega (arith, m, below))) (order.0 k [] l m), λ k d l m. let h : k < length ps = omega (arith, m, length-map ps number) in rw (at k d h) (order.1 k [] l h))
-
-  found_at : (r : Result ℕ ℕ) → IsSearchInRange r (length ps) → IsBinarySearchResult (λ p. nat_cmp (number p) n) ps r → MatchBool (is_ok r) (Member n (map number ps)) (Rising (map number ps) → Member n (map number ps) → ⊥)
-  found_at (Ok i) below h =
-      let same : number (get_or ps i []) ≡ n = grind (arith, nat_tests, h []) in
-      (i, omega (arith, below, length-map ps number), at i 0 below ∙ same)
-  found_at (Err i) below h = λ rising member.
-      let apart = searched (map number ps) n (Err i) (searched_numbers (Err i) below h) (λ j k l m. rising_up (map number ps) rising j k l m) in
-      elim (dec_lt member.0 i) [
-        | yes l ↦ omega (arith, apart.1 member.0 l, member.2)
-        | no l ↦ omega (arith, apart.2 member.0 (omega arith) member.1, member.2)
-      ]
-
-  pub found : (s : Bytes) (r : Result ℕ ℕ) (b : Bool) → ps ≡ row_of 8 s → b ≡ is_ok r → IsSearchInRange r (length ps) → IsBinarySearchResult (λ p. nat_cmp (number p) n) ps r →
-      MatchBool b (Member n (numbers 8 s)) (Rising (numbers 8 s) → Member n (numbers 8 s) → ⊥)
-  found s r b cut e below h = rw (e, sym cut) (found_at r below h)
 
 -- ---- rising numbers, gone through one by one
 

@@ -1,7 +1,8 @@
 -- What was taken field by field is what the bytes were. Assumes nothing.
-use Rattle.std.proofs.Common.{◌≡◌, ℕ, ◌+◌, ◌*◌, ◌/◌, ◌^◌, ◌<◌, ◌≤◌, List, [], ◌∷◌, ◌++◌, None, Some, Option, length, sym, ap, ◌∙◌, append_assoc, append-nil, arith}
+use Rattle.std.proofs.Common.{◌≡◌, ℕ, ◌+◌, ◌*◌, ◌/◌, ◌^◌, ◌<◌, ◌≤◌, List, [], ◌∷◌, ◌++◌, None, Some, Option, length, sym, ap, ◌∙◌, append_assoc, append-nil, length-append, arith}
 use Rattle.model.specs.Objects.{Certificate}
 use Rattle.std.specs.List.{flat_map}
+use Rattle.std.proofs.lemmas.List.{nil_from_length}
 use Rattle.wire_theory.specs.Bytes.{Bytes, big, number, numbers, part}
 use Rattle.wire_theory.specs.Messages.{SignedSct, SignedHead, SignedList, Message, Settings, counted, row}
 use Rattle.wire_theory.specs.Messages.{certificate, sct, head, list, order, challenge, published, submit, get_inclusion, get_consistency, get_entries, revoke, bring, present, inclusion, consistency, entries, answer, refused, included, convicts}
@@ -29,6 +30,18 @@ pub certificate_taken : (c : Certificate) (s a b d e f new : Bytes) → s ≡ c.
     1 ∷ s ≡ certificate_bytes c ++ new
 unfolding signed_certificate
 certificate_taken c s a b d e f new issuer name key serial expiry seal = simp append_assoc cc
+
+-- the same, where all behind the name was taken at once
+pub certificate_within : (c : Certificate) (s a b own tail d e f rest new : Bytes) → s ≡ c.issuer ∷ a → a ≡ counted c.name ++ b → (b ≡ own ++ new) × (length own ≡ 112) →
+    tail ≡ own → (tail ≡ c.key ++ d) × (length c.key ≡ 32) → d ≡ big 8 c.serial ++ e → e ≡ big 8 c.expiry ++ f → (f ≡ c.seal ++ rest) × (length c.seal ≡ 64) → 1 ∷ s ≡ certificate_bytes c ++ new
+certificate_within c s a b own tail d e f rest new issuer name whole same key serial expiry seal =
+    let joined : (t x y : Bytes) → t ≡ x ++ y → t ++ new ≡ x ++ (y ++ new) = λ t x y h. ap (λ u. u ++ new) h ∙ append_assoc x y new in
+    let long : (t x y : Bytes) → t ≡ x ++ y → length t ≡ length x + length y = λ t x y h. ap length h ∙ length-append x y in
+    let all : rest ≡ [] =
+    nil_from_length rest
+    (omega (arith, whole.1, ap length same, long tail c.key d key.0, key.1, long d (big 8 c.serial) e serial, length-big 8 c.serial, long e (big 8 c.expiry) f expiry, length-big 8 c.expiry, long f c.seal rest seal.0, seal.1)) in
+    certificate_taken c s a b (d ++ new) (e ++ new) (f ++ new) new issuer name (whole.0 ∙ ap (λ t. t ++ new) (sym same) ∙ joined tail c.key d key.0) (joined d (big 8 c.serial) e serial) (joined e (big 8 c.expiry) f expiry)
+    (joined f c.seal rest seal.0 ∙ ap (λ r. c.seal ++ (r ++ new)) all)
 
 pub sct_taken : (p : SignedSct) (s a b d new : Bytes) → s ≡ p.log ∷ a → a ≡ p.digest ++ b → b ≡ big 8 p.at ++ d → d ≡ p.seal ++ new → 2 ∷ s ≡ sct_bytes p ++ new
 unfolding signed_sct

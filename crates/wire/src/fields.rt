@@ -1,5 +1,5 @@
 // What is left of a message's bytes: its fields are taken from the front, one after the other.
-ghost use Rattle.std.specs.Prelude.{◌≡◌, ℕ, ◌*◌, ◌≤◌, List, [], ◌∷◌, MatchBool, MatchOption};
+ghost use Rattle.std.specs.Prelude.{◌≡◌, ℕ, ◌*◌, ◌≤◌, List, [], ◌∷◌, length, MatchBool, MatchOption};
 ghost use Rattle.wire_theory.specs.Bytes.{big};
 ghost use Rattle.wire.specs.Taking.{Takes, TakesKind, TakesName, TakesPath, TakesWithin};
 
@@ -39,6 +39,12 @@ impl<'a> Fields<'a> {
         ensures { MatchBool result (self.now ≡ []) (self.now ≡ [] → ⊥) }
     {
         self.rest.is_empty()
+    }
+
+    pub(crate) fn len(&self) -> usize
+        ensures { result ≡ length self.now }
+    {
+        self.rest.len()
     }
 
     // Some where no bytes are left.

@@ -13,11 +13,17 @@ use crate::log::{Sct, TreeHead};
 use crate::message::Message;
 use crate::parts::Serials;
 
-// Each is read behind its kind where a message begins with it, and with its kind where it is a part of one.
+// Each is read behind its kind where a message begins with it, and with its kind where it is a part of one. As a part it is inlined:
+// a row of certificates is then looked through without copying what nobody asks for.
 impl<'a> Fields<'a> {
+    #[inline(always)]
     pub(crate) fn certificate(&mut self) -> Option<Certificate<'a>>
         ensures { TakesWhole BeginsCertificate certificate_bytes FitsCertificate certificate_of self.old self.new result }
     {
+        // None is shorter: with that asked first, the compiler leaves out what follows from it.
+        if self.len() < 115 {
+            return None;
+        }
         self.kind(Kind::Certificate)?;
         self.rest_of_certificate()
     }
@@ -25,16 +31,21 @@ impl<'a> Fields<'a> {
     fn rest_of_certificate(&mut self) -> Option<Certificate<'a>>
         ensures { TakesWhole BeginsCertificate certificate_bytes FitsCertificate certificate_of (1 ∷ self.old) self.new result }
     {
+        let issuer = self.byte()?;
+        let name = self.name()?;
+        // The others are of one length, and are asked for at once.
+        let mut rest = Fields::of(self.bytes(112)?);
         Some(Certificate {
-            issuer: self.byte()?,
-            name: self.name()?,
-            key: self.key()?,
-            serial: self.number()?,
-            expiry: self.number()?,
-            signature: self.signature()?,
+            issuer,
+            name,
+            key: rest.key()?,
+            serial: rest.number()?,
+            expiry: rest.number()?,
+            signature: rest.signature()?,
         })
     }
 
+    #[inline(always)]
     pub(crate) fn sct(&mut self) -> Option<Sct>
         ensures { TakesWhole BeginsSct sct_bytes FitsSct sct_of self.old self.new result }
     {
@@ -53,6 +64,7 @@ impl<'a> Fields<'a> {
         })
     }
 
+    #[inline(always)]
     pub(crate) fn head(&mut self) -> Option<TreeHead>
         ensures { TakesWhole BeginsHead head_bytes FitsHead head_of self.old self.new result }
     {
@@ -118,12 +130,13 @@ pub(crate) fn revocation_list(body: &[u8]) -> Option<Message<'_>>
         return None;
     }
     let bytes = fields.bytes(8 * count as usize)?;
+    let signature = fields.signature()?;
+    fields.end()?;
+    // Last, so that a list of a wrong length isn't gone through.
     let serials = Serials { bytes };
     if !serials.are_rising() {
         return None;
     }
-    let signature = fields.signature()?;
-    fields.end()?;
     Some(Message::RevocationList(RevocationList {
         authority,
         at,

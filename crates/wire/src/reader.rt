@@ -71,7 +71,9 @@ pub fn read(s: &[u8]) -> Result<Message<'_>, Refusal>
     Ok(message)
 }
 
-// A promise, a head, and as many digests as the head has entries.
+// A promise, a head, and as many digests as the head has entries. Inlined with its one caller, so that whoever asks for a part of it
+// doesn't pay for copies of the others.
+#[inline(always)]
 fn evidence(s: &[u8]) -> Option<Evidence<'_>>
     ensures { MatchOption result (EvidenceShape s.now → ⊥) (λ e. Encodes evidence_bytes FitsEvidence s.now (evidence_of e)) }
 {
@@ -83,10 +85,14 @@ fn evidence(s: &[u8]) -> Option<Evidence<'_>>
     Some(Evidence { sct, head, digests })
 }
 
+#[inline(always)]
 pub fn read_evidence(s: &[u8]) -> Result<Evidence<'_>, Refusal>
     ensures { MatchResult result (λ e. Encodes evidence_bytes FitsEvidence s.now (evidence_of e)) (λ f. (refusal_number f ≡ Some 1) × ((e : _) → Encodes evidence_bytes FitsEvidence s.now e → ⊥)) }
 {
-    evidence(s).ok_or(Refusal::Unreadable)
+    let Some(evidence) = evidence(s) else {
+        return Err(Refusal::Unreadable);
+    };
+    Ok(evidence)
 }
 
 fn settings(s: &[u8]) -> Option<Settings>
