@@ -3,8 +3,8 @@ ghost use Rattle.std.specs.Prelude.{◌≡◌};
 
 #[derive(Drop)]
 pub struct Tally {
-    pub(crate) all: u32,
-    pub(crate) agree: u32,
+    pub all: u32,
+    pub agree: u32,
 }
 
 impl Tally {

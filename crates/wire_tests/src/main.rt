@@ -88,15 +88,14 @@ fn run(rt: &HostRuntime) -> anyhow::Result<()> {
     for example in &EXAMPLES {
         differ = differ.saturating_add(run_example(rt, example)?);
     }
-    for (name, bytes) in [
-        ("longest name", longest_name(heap)?),
-        ("most serials", most_serials(heap, 1024)?),
-        ("most digests", most_digests(heap, 65536)?),
-        ("one serial too many", most_serials(heap, 1025)?),
-        ("one digest too few", most_digests(heap, 65535)?),
-    ] {
-        differ = differ.saturating_add(run_worst(rt, name, &bytes)?);
-    }
+    // Each is made when those before it are done with, so that they are told even where memory is wanting for it.
+    differ = differ.saturating_add(run_worst(rt, "longest name", &longest_name(heap)?)?);
+    differ = differ.saturating_add(run_worst(rt, "most serials", &most_serials(heap, 1024)?)?);
+    differ = differ.saturating_add(run_worst(rt, "most digests", &most_digests(heap, 65536)?)?);
+    let serials = most_serials(heap, 1025)?;
+    differ = differ.saturating_add(run_worst(rt, "one serial too many", &serials)?);
+    let digests = most_digests(heap, 65535)?;
+    differ = differ.saturating_add(run_worst(rt, "one digest too few", &digests)?);
     println!(rt; "{differ} answers differ")?;
     Ok(())
 }
